@@ -6,6 +6,8 @@
   count.py count FOLDER LOADER [SCRIPT..] counts the programs of that folder on them, and prints a table
   count.py count FOLDER LOADER --second [SCRIPT..]
                                           counts the second set: other fonts, other words and other scripts
+  count.py count FOLDER LOADER --lengths [SCRIPT..]
+                                          counts a short and a long text of each script, by character
 
 Each program shapes a file once and three times; half of the difference is what one time takes, so that starting, reading the
 font and what is made once don't count. What all three print, the sum of the glyphs' numbers, must be the same.
@@ -59,6 +61,8 @@ SECOND = {
 SETS = {"scripts": ({name: (name, *row) for name, row in SCRIPTS.items()}, 0), "second": (SECOND, 3)}
 # How many words and lines are counted, and how long a line is at least.
 WORDS, LINES, LENGTH = 60, 6, 130
+# How many characters a short text has about, and a long one.
+LENGTHS = [100, 100_000]
 PROGRAMS = ["sengadlit", "harfrust", "harfbuzz"]
 WAYS = ["kept", "cache", "prepared", "anew", "parsed"]
 # The two others have one face, which isn't prepared.
@@ -84,6 +88,12 @@ def lines_of(words):
             line = ""
 
 
+def text_of(words, length):
+    """Words of a script, again and again, as one text of about so many characters."""
+    line = " ".join(words)
+    return (f"{line} " * (length // len(line) + 1))[:length].rstrip()
+
+
 def write_texts(texts, folder, root):
     folder.mkdir(parents=True, exist_ok=True)
     for file, (rows, start) in SETS.items():
@@ -100,6 +110,8 @@ def write_text(path, folder, name, start):
     real = [word for word in path.read_text("utf-8").split("\n") if word]
     words = spread([word for word in real if 3 <= len(word) <= 20], WORDS, start)
     (folder / f"{name}.words").write_text("".join(f"{word}\n" for word in words), "utf-8")
+    for length in LENGTHS:
+        (folder / f"{name}.{length}").write_text(f"{text_of(words, length)}\n", "utf-8")
     lines = list(lines_of(real[7 + start::11]))[:LINES]
     (folder / f"{name}.lines").write_text("".join(f"{line}\n" for line in lines), "utf-8")
     return True
@@ -188,11 +200,35 @@ def print_table(rows, counts):
         print("\t".join(["mean", kind, *means_of(rows, counts, kind)]))
 
 
+def count_lengths(folder, loader, rows):
+    """Prints what a character takes in a short text and in a long one, where it may take no more."""
+    jobs = [(program, "kept", row, str(length)) for row in rows for length in LENGTHS for program in PROGRAMS]
+    with concurrent.futures.ThreadPoolExecutor(2) as pool:
+        counts = dict(zip(jobs, pool.map(Count(folder, loader).text, jobs)))
+    print("\t".join(["script", *(f"{length}: {what}" for length in LENGTHS for what in ("here", "HarfRust", "HarfBuzz"))]))
+    failed = 0
+    for row in rows:
+        cells, takes = [], []
+        for length in LENGTHS:
+            own, *peers = [counts[program, "kept", row, str(length)] for program in PROGRAMS]
+            characters = len((folder / "texts" / f"{row[0]}.{length}").read_text("utf-8")) - 1
+            takes.append(own[0] / characters)
+            cells += [f"{takes[-1]:.0f}", *(f"{own[0] / peer[0]:.2f}" for peer in peers)]
+            failed += len({own[1], *(peer[1] for peer in peers)}) > 1
+        failed += takes[1] > takes[0]
+        print("\t".join([row[0], *cells]))
+    print(f"{3 * len(rows) - failed} passed, {failed} failed")
+    return 1 if failed else 0
+
+
 def count(folder, loader, wanted):
+    lengths, wanted = "--lengths" in wanted, [word for word in wanted if word != "--lengths"]
     file = "second" if wanted[:1] == ["--second"] else "scripts"
     wanted = [word for word in wanted if word != "--second"]
     rows = [tuple(line.split("\t")) for line in (folder / "texts" / file).read_text("utf-8").splitlines()]
     rows = [row for row in rows if not wanted or row[0] in wanted]
+    if lengths:
+        return count_lengths(folder, loader, rows)
     jobs = jobs_of(rows)
     with concurrent.futures.ThreadPoolExecutor(2) as pool:
         counts = dict(zip(jobs, pool.map(Count(folder, loader).text, jobs)))
