@@ -19,12 +19,11 @@ use Rattle.shapers_clusters.proofs.GuardedGroups.{changed_behind, groups_in_fron
 use Rattle.shapers_clusters.proofs.Moves.{falls-after_steps}
 use Rattle.shapers_clusters.proofs.SettledGroups.{behind_groups, fallen_len, front_view, guarded_length, guarded_view, length_groups, order_view-groups, shown_settles}
 use Rattle.shapers_clusters.proofs.Widened.{all_fit-widened}
-use Rattle.shapers_syllabic.proofs.LinkedSyllables.{Leads, Link, Meaning, Orders, PermutesNumbers, Stays, ToLink, linked_end, linked_passes, next_syllable, numbers-view, past_changing, takes_next, to_changing, to_link_all}
+use Rattle.shapers_syllabic.proofs.LinkedSyllables.{Leads, Link, Meaning, Orders, PermutesNumbers, Stays, linked_passes, next_syllable, numbers-view, past_changing, rest_end, takes_next, to_changing, to_link_rest}
 use Rattle.shapers_syllabic.proofs.Skipping.{to_end}
-use Rattle.shapers_syllabic.specs.declared.ot_shaper_syllabic.reordering.Carrying.{Carrying}
-use Rattle.shapers_syllabic.specs.Reordering.{SyllableReordered, SyllablesLinked, TakesText, carried, glyph_numbers}
+use Rattle.shapers_syllabic.specs.Reordering.{SyllableReordered, carried, glyph_numbers}
 use Rattle.shapers_syllabic.specs.ReorderingLaws.{ReorderLaws}
-use Rattle.shapers_syllabic.specs.ReorderingWalk.{CarryingFits, IsNextChanging, ReorderedBehind, groups_written}
+use Rattle.shapers_syllabic.specs.ReorderingWalk.{CarryingFits, IsNextChanging, ReorderedBehind, RestLinked, TakesRest, ToLink, groups_written}
 
 abbrev zip_with : {X Y Z : Type 0} → (X → Y → Z) → List X → List Y → List Z
 zip_with f [] ys = []
@@ -260,28 +259,29 @@ behind_guarded meaning steps link leads suffices laws first end count it after o
     ]
 
 -- WHAT THE WALK STILL HAS TO DO, if the groups were written
-pub record ToCarry (takes : List ℕ → Type 0) (link : Link) (old : Buffer) (it : Carrying) (now : Buffer)
+pub record ToCarry (takes : List ℕ → Type 0) (link : Link) (from : ℕ) (old : Buffer) (it : CarriedGroups) (now : Buffer)
     (start : ℕ) : Type 0 where
   pub fits : CarryingFits start it now.glyphs
-  pub to : ToLink takes link old (groups_written it.groups now) start
+  pub to : ToLink takes link from old (groups_written it now) start
 
 -- without groups
 pub written_none : (it : CarriedGroups) (b : Buffer) → it.groups.items ≡ [] → it.start ≡ it.end →
     groups_written it b ≡ b
 written_none it b none = search none_written
 
-pub to_carry_all : (takes : List ℕ → Type 0) (link : Link) (old : Buffer) (it : Carrying) → it.groups.start ≡ 0 →
-    it.groups.end ≡ 0 → it.groups.groups.items ≡ [] → TakesText takes old.glyphs → ToCarry takes link old it old 0
-to_carry_all takes link old it start_is end_is none all =
-    let same : it.groups.start ≡ it.groups.end = omega arith in search (arith, to_link_all takes link old all)
+pub to_carry_rest : (takes : List ℕ → Type 0) (link : Link) (from : ℕ) (old : Buffer) (it : CarriedGroups) →
+    it.start ≡ 0 → it.end ≡ 0 → it.groups.items ≡ [] → TakesRest takes from old → ToCarry takes link from old it old from
+to_carry_rest takes link from old it start_is end_is none rest =
+    let same : it.start ≡ it.end = omega arith in
+    search (arith, to_link_rest takes link from old rest, none_carried)
 
-pub record CarriedStands (it : Carrying) (old now : Buffer) (start : ℕ) : Type 0 where
+pub record CarriedStands (it : CarriedGroups) (old now : Buffer) (start : ℕ) : Type 0 where
   pub inside : start ≤ length now.glyphs
   pub positions : now.positions ≡ old.positions
   pub fits : (first : ℕ) → start ≤ first → CarryingFits first it now.glyphs
 
-pub carried_stands : (takes : List ℕ → Type 0) (link : Link) (old : Buffer) (it : Carrying) (now : Buffer)
-    (start : ℕ) → ToCarry takes link old it now start → CarriedStands it old now start
+pub carried_stands : (takes : List ℕ → Type 0) (link : Link) (from : ℕ) (old : Buffer) (it : CarriedGroups) (now : Buffer)
+    (start : ℕ) → ToCarry takes link from old it now start → CarriedStands it old now start
 carried_stands = search (arith, length_groups)
 
 next_carried : (changes : Glyph → Bool) (it : CarriedGroups) (start first : ℕ)
@@ -290,57 +290,54 @@ next_carried : (changes : Glyph → Bool) (it : CarriedGroups) (start first : �
 next_carried = search (arith, length_groups, behind_groups)
 
 pub takes_carried : (meaning : Meaning) (takes : List ℕ → Type 0) (changes : Glyph → Bool) (link : Link)
-    (old : Buffer) (it : Carrying) (now : Buffer) (read : Glyphs) (start first end : ℕ) →
+    (from : ℕ) (old : Buffer) (it : CarriedGroups) (now : Buffer) (read : Glyphs) (start first end : ℕ) →
     read ≡ now.glyphs → PermutesNumbers meaning → Orders meaning link → Stays changes link →
-    IsNextChanging changes start read first → ToCarry takes link old it now start →
+    IsNextChanging changes start read first → ToCarry takes link from old it now start →
     end ≡ first + first_syllable_len (drop first now.glyphs) → takes (glyph_numbers (stretch_of first end now.glyphs))
-takes_carried meaning takes changes link old it now read start first end is permutes orders stays found state end_is =
-    let groups = it.groups in
-    let meant = with_groups groups now.glyphs in
+takes_carried meaning takes changes link from old it now read start first end is permutes orders stays found state end_is =
+    let meant = with_groups it now.glyphs in
     let fits = state.fits.fits in
-    let found_meant = next_carried changes groups start first now.glyphs read is fits state.fits.ends found in
-    let to = to_changing meaning takes changes link old (groups_written groups now) meant start first refl permutes orders
+    let found_meant = next_carried changes it start first now.glyphs read is fits state.fits.ends found in
+    let to = to_changing meaning takes changes link from old (groups_written it now) meant start first refl permutes orders
     stays found_meant state.to in
     let end_meant = end_is
-    ∙ ap (λ l. first + first_syllable_len l) (sym (behind_groups groups first now.glyphs fits (omega arith))) in
-    subst takes (numbers_by_view first end meant now.glyphs (order_view-groups groups now.glyphs fits.span))
-    (takes_next takes link old (groups_written groups now) first end to
+    ∙ ap (λ l. first + first_syllable_len l) (sym (behind_groups it first now.glyphs fits (omega arith))) in
+    subst takes (numbers_by_view first end meant now.glyphs (order_view-groups it now.glyphs fits.span))
+    (takes_next takes link from old (groups_written it now) first end to
     (next_syllable meant first end found_meant.inside end_meant))
 
 -- past the next syllable that may change
-pub record CarriedNext (takes : List ℕ → Type 0) (link : Link) (old now : Buffer) (it : Carrying) (new : Buffer)
+pub record CarriedNext (takes : List ℕ → Type 0) (link : Link) (from : ℕ) (old now : Buffer) (it : CarriedGroups) (new : Buffer)
     (end : ℕ) : Type 0 where
   pub same_length : length new.glyphs ≡ length now.glyphs
-  pub state : ToCarry takes link old it new end
+  pub state : ToCarry takes link from old it new end
 
 pub carry_next : (meaning : Meaning) (takes : List ℕ → Type 0) (changes : Glyph → Bool) (link : Link)
-    (old : Buffer) (it : Carrying) (now : Buffer) (read : Glyphs) (start first end : ℕ)
-    (after : Carrying) (new : Buffer) → read ≡ now.glyphs → PermutesNumbers meaning → Orders meaning link →
-    Stays changes link → IsNextChanging changes start read first → ToCarry takes link old it now start →
+    (from : ℕ) (old : Buffer) (it : CarriedGroups) (now : Buffer) (read : Glyphs) (start first end : ℕ)
+    (after : CarriedGroups) (new : Buffer) → read ≡ now.glyphs → PermutesNumbers meaning → Orders meaning link →
+    Stays changes link → IsNextChanging changes start read first → ToCarry takes link from old it now start →
     end ≡ first + first_syllable_len (drop first now.glyphs) → first ≤ end →
-    ReorderedBehind link first end it now after new → CarriedNext takes link old now after new end
-carry_next meaning takes changes link old it now read start first end after new is permutes orders stays found state
+    ReorderedBehind link first end it now after new → CarriedNext takes link from old now after new end
+carry_next meaning takes changes link from old it now read start first end after new is permutes orders stays found state
     end_is further done =
-    let groups = it.groups in
-    let meant = with_groups groups now.glyphs in
+    let meant = with_groups it now.glyphs in
     let fits = state.fits.fits in
-    let found_meant = next_carried changes groups start first now.glyphs read is fits state.fits.ends found in
-    let next = past_changing meaning takes changes link old (groups_written groups now) (groups_written after.groups
+    let found_meant = next_carried changes it start first now.glyphs read is fits state.fits.ends found in
+    let next = past_changing meaning takes changes link from old (groups_written it now) (groups_written after
     new) meant start first end refl permutes orders stays found_meant state.to (end_is
-    ∙ ap (λ l. first + first_syllable_len l) (sym (behind_groups groups first now.glyphs fits (omega arith)))) done.linked in
-    search (arith, length_groups after.groups new.glyphs done.fits.fits.span, length_groups groups now.glyphs fits.span)
+    ∙ ap (λ l. first + first_syllable_len l) (sym (behind_groups it first now.glyphs fits (omega arith)))) done.linked in
+    search (arith, length_groups after new.glyphs done.fits.fits.span, length_groups it now.glyphs fits.span)
 
 -- behind the last one the groups are written
 pub carry_end : (meaning : Meaning) (takes : List ℕ → Type 0) (changes : Glyph → Bool) (link : Link)
-    (old : Buffer) (it : Carrying) (now : Buffer) (read : Glyphs) (start : ℕ) (new : Buffer) →
+    (from : ℕ) (old : Buffer) (it : CarriedGroups) (now : Buffer) (read : Glyphs) (start : ℕ) (new : Buffer) →
     read ≡ now.glyphs → PermutesNumbers meaning → Orders meaning link → Stays changes link →
-    list_any changes (drop start read) ≡ false → ToCarry takes link old it now start →
-    new ≡ but_places (groups_written it.groups now) → SyllablesLinked link old new
-carry_end meaning takes changes link old it now read start new is permutes orders stays none state new_is =
-    let groups = it.groups in
-    let meant = with_groups groups now.glyphs in
+    list_any changes (drop start read) ≡ false → ToCarry takes link from old it now start →
+    new ≡ but_places (groups_written it now) → RestLinked link from old new
+carry_end meaning takes changes link from old it now read start new is permutes orders stays none state new_is =
+    let meant = with_groups it now.glyphs in
     let rest : drop start meant ≡ drop start read = search (arith, behind_groups) in
-    let passes = linked_passes meaning takes changes link old (groups_written groups now) permutes orders stays in
-    linked_end takes link old (groups_written groups now) new
-    (to_end changes meant (ToLink takes link old (groups_written groups now)) passes start state.to.inside
+    let passes = linked_passes meaning takes changes link from old (groups_written it now) permutes orders stays in
+    rest_end takes link from old (groups_written it now) new
+    (to_end changes meant (ToLink takes link from old (groups_written it now)) passes start state.to.inside
     (cc) state.to) new_is

@@ -15,7 +15,7 @@ use Rattle.shapers_buffer.specs.Syllables.{first_syllable_len, syllables}
 use Rattle.shapers_buffer.proofs.ClusterLemmas.{length-stretch, map-stretch}
 use Rattle.shapers_clusters.specs.Steps.{Step, after_steps, steps_along}
 use Rattle.shapers_syllabic.specs.Reordering.{Chain, SyllableOrdered, SyllableReordered, SyllablesLinked, SyllablesReordered, TakesText, TextOrdered, carried, glyph_numbers, syllable_lens, text_order}
-use Rattle.shapers_syllabic.specs.ReorderingWalk.{IsNextChanging}
+use Rattle.shapers_syllabic.specs.ReorderingWalk.{IsNextChanging, RestLinked, TakesRest, ToLink}
 use Rattle.shapers_syllabic.proofs.Borders.{syllables-viewed}
 use Rattle.shapers_syllabic.proofs.ReorderingLemmas.{after_steps-carried}
 use Rattle.shapers_syllabic.proofs.ReorderingWalk.{first_len-view, first_len-within, opens, pieces_of}
@@ -96,15 +96,6 @@ one_ordered meaning now new start end permutes next some done =
       after = ap (drop end) view ∙ drop_at (front ++ made) (drop k rest) end both;
     }
 
--- What a walk at place start has still to do on the buffer as it is now, if the text was old at first: the
--- syllables from start on, by a chain that completes one over the whole.
-pub record ToLink (takes : List ℕ → Type 0) (link : Link) (old now : Buffer) (start : ℕ) : Type 0 where
-  pub others : but_places now ≡ record (but_places old) { glyphs = now.glyphs }
-  pub inside : start ≤ length now.glyphs
-  pub takes_rest : TakesText takes (drop start (order_view now.glyphs))
-  pub completes : (new : Buffer) → Chain link start (syllable_lens (drop start (order_view now.glyphs))) now new →
-      Chain link 0 (syllable_lens (order_view old.glyphs)) old new
-
 -- the order view has the same syllables
 pub lens-view : (gs : Glyphs) → syllable_lens (order_view gs) ≡ syllable_lens gs
 lens-view gs = ap (map length) (syllables-viewed plain (λ g. refl) gs) ∙ lens (syllables gs)
@@ -130,24 +121,44 @@ takes-view takes gs all = subst (AllByRecursion takes) (sym (ap (map glyph_numbe
 
 -- before the first syllable
 pub to_link_all : (takes : List ℕ → Type 0) (link : Link) (old : Buffer) → TakesText takes old.glyphs →
-    ToLink takes link old old 0
+    ToLink takes link 0 old old 0
 to_link_all = search (arith, takes-view)
 
+-- before the first one of the rest
+pub to_link_rest : (takes : List ℕ → Type 0) (link : Link) (from : ℕ) (old : Buffer) → TakesRest takes from old →
+    ToLink takes link from old old from
+to_link_rest takes link from old rest = record {
+  others = refl;
+  inside = rest.inside;
+  takes_rest = rest.takes_rest;
+  completes = λ new linked. linked;
+}
+
+-- a walk that goes on where another one ended
+pub to_link_on : (takes : List ℕ → Type 0) (link : Link) (from : ℕ) (old mid now : Buffer) (place start : ℕ) →
+    ToLink takes link from old mid place → ToLink takes link place mid now start → ToLink takes link from old now start
+to_link_on takes link from old mid now place start to on = record {
+  others = on.others ∙ ap (λ (b : Buffer). record b { glyphs = now.glyphs }) to.others;
+  inside = on.inside;
+  takes_rest = on.takes_rest;
+  completes = λ new linked. to.completes new (on.completes new linked);
+}
+
 -- what is required of the next syllable
-pub takes_next : (takes : List ℕ → Type 0) (link : Link) (old now : Buffer) (start end : ℕ) →
-    ToLink takes link old now start → NextSyllable now.glyphs start end →
+pub takes_next : (takes : List ℕ → Type 0) (link : Link) (from : ℕ) (old now : Buffer) (start end : ℕ) →
+    ToLink takes link from old now start → NextSyllable now.glyphs start end →
     takes (glyph_numbers (stretch_of start end now.glyphs))
-takes_next takes link old now start end to next =
+takes_next takes link from old now start end to next =
     subst takes (ap glyph_numbers (sym next.stretch ∙ sym (map-stretch plain start end now.glyphs))
     ∙ numbers-view (stretch_of start end now.glyphs))
     (subst (λ ps. AllByRecursion takes (map glyph_numbers ps)) next.cut to.takes_rest).0
 
 -- one syllable more
-pub linked_next : (meaning : Meaning) (takes : List ℕ → Type 0) (link : Link) (old now new : Buffer) (start end : ℕ) →
-    ToLink takes link old now start → (next : NextSyllable now.glyphs start end) →
+pub linked_next : (meaning : Meaning) (takes : List ℕ → Type 0) (link : Link) (from : ℕ) (old now new : Buffer) (start end : ℕ) →
+    ToLink takes link from old now start → (next : NextSyllable now.glyphs start end) →
     OneOrdered meaning now new start end next → but_places new ≡ record (but_places now) { glyphs = new.glyphs } →
-    link start end now new → ToLink takes link old new end
-linked_next meaning takes link old now new start end to next done others linked =
+    link start end now new → ToLink takes link from old new end
+linked_next meaning takes link from old now new start end to next done others linked =
     let rest = drop start (order_view now.glyphs) in
     let k = next.len in
     let syl = take k rest in
@@ -173,13 +184,13 @@ Stays changes link = (s e : ℕ) (b : Buffer) → s < e → e ≤ length b.glyph
     list_any changes (stretch_of s e b.glyphs) ≡ false → link s e b b
 
 pub linked_passes : (meaning : Meaning) (takes : List ℕ → Type 0) (changes : Glyph → Bool) (link : Link)
-    (old now : Buffer) → PermutesNumbers meaning → Orders meaning link → Stays changes link →
-    PassesOver changes now.glyphs (ToLink takes link old now)
-linked_passes meaning takes changes link old now permutes orders stays s e some within end_is none to =
+    (from : ℕ) (old now : Buffer) → PermutesNumbers meaning → Orders meaning link → Stays changes link →
+    PassesOver changes now.glyphs (ToLink takes link from old now)
+linked_passes meaning takes changes link from old now permutes orders stays s e some within end_is none to =
     let linked = stays s e now some within none in
     let ordered = orders s e now now linked in
     let next = next_syllable now.glyphs s e (omega arith) end_is in
-    linked_next meaning takes link old now now s e to next (one_ordered meaning now now s e permutes next
+    linked_next meaning takes link from old now now s e to next (one_ordered meaning now now s e permutes next
     (omega arith) ordered) ordered.others linked
 
 -- so where each glyph may change its syllable
@@ -194,35 +205,43 @@ each_may link s e b some within none =
 
 -- up to the next syllable that may change
 pub to_changing : (meaning : Meaning) (takes : List ℕ → Type 0) (changes : Glyph → Bool) (link : Link)
-    (old now : Buffer) (gs : Glyphs) (start first : ℕ) → gs ≡ now.glyphs → PermutesNumbers meaning →
+    (from : ℕ) (old now : Buffer) (gs : Glyphs) (start first : ℕ) → gs ≡ now.glyphs → PermutesNumbers meaning →
     Orders meaning link → Stays changes link → IsNextChanging changes start gs first →
-    ToLink takes link old now start → ToLink takes link old now first
-to_changing meaning takes changes link old now gs start first is permutes orders stays next to =
-    to_next changes now.glyphs (ToLink takes link old now) (search linked_passes) start first (search arith) to
+    ToLink takes link from old now start → ToLink takes link from old now first
+to_changing meaning takes changes link from old now gs start first is permutes orders stays next to =
+    to_next changes now.glyphs (ToLink takes link from old now) (search linked_passes) start first (search arith) to
 
 -- and past it
-pub record LinkedNext (takes : List ℕ → Type 0) (link : Link) (old now new : Buffer) (end : ℕ) : Type 0 where
+pub record LinkedNext (takes : List ℕ → Type 0) (link : Link) (from : ℕ) (old now new : Buffer) (end : ℕ) : Type 0 where
   pub same_length : length new.glyphs ≡ length now.glyphs
-  pub to : ToLink takes link old new end
+  pub to : ToLink takes link from old new end
 
 pub past_changing : (meaning : Meaning) (takes : List ℕ → Type 0) (changes : Glyph → Bool) (link : Link)
-    (old now new : Buffer) (gs : Glyphs) (start first end : ℕ) → gs ≡ now.glyphs →
+    (from : ℕ) (old now new : Buffer) (gs : Glyphs) (start first end : ℕ) → gs ≡ now.glyphs →
     PermutesNumbers meaning → Orders meaning link → Stays changes link → IsNextChanging changes start gs first →
-    ToLink takes link old now start → end ≡ first + first_syllable_len (drop first now.glyphs) →
-    link first end now new → LinkedNext takes link old now new end
-past_changing meaning takes changes link old now new gs start first end is permutes orders stays found to end_is linked
+    ToLink takes link from old now start → end ≡ first + first_syllable_len (drop first now.glyphs) →
+    link first end now new → LinkedNext takes link from old now new end
+past_changing meaning takes changes link from old now new gs start first end is permutes orders stays found to end_is linked
     =
-    let reached = to_changing meaning takes changes link old now gs start first is permutes orders stays found to in
+    let reached = to_changing meaning takes changes link from old now gs start first is permutes orders stays found to in
     let some : first < length now.glyphs = omega (arith, ap length is) in
     let ordered = orders first end now new linked in
     let next = next_syllable now.glyphs first end some end_is in
     let done = one_ordered meaning now new first end permutes next some ordered in
-    search (linked_next meaning takes link old now new first end reached next done ordered.others linked)
+    search (linked_next meaning takes link from old now new first end reached next done ordered.others linked)
 
 -- behind the last syllable
+pub rest_end : (takes : List ℕ → Type 0) (link : Link) (from : ℕ) (old now new : Buffer) →
+    ToLink takes link from old now (length now.glyphs) → new ≡ but_places now → RestLinked link from old new
+rest_end takes link from old now new to = search (arith, drop_all, length-map)
+
+-- a chain over the syllables from the first one on
+pub all_linked : (link : Link) (old new : Buffer) → RestLinked link 0 old new → SyllablesLinked link old new
+all_linked link old new linked = subst (λ lens. Chain link 0 lens old new) (lens-view old.glyphs) linked
+
 pub linked_end : (takes : List ℕ → Type 0) (link : Link) (old now new : Buffer) →
-    ToLink takes link old now (length now.glyphs) → new ≡ but_places now → SyllablesLinked link old new
-linked_end takes link old now new to = search (arith, lens-view, drop_all, length-map)
+    ToLink takes link 0 old now (length now.glyphs) → new ≡ but_places now → SyllablesLinked link old new
+linked_end takes link old now new to is = all_linked link old new (rest_end takes link 0 old now new to is)
 
 -- WHAT A CHAIN COMES TO
 -- the syllable that its first link orders

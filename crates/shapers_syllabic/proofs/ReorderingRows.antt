@@ -98,13 +98,13 @@ chain_of_nothing : SyllablesLinked noted (record (new_buffer 5) { places = 7 ∷
 chain_of_nothing = refl
 
 -- refusals of an order that may refuse, and of one that doesn't
-refuses_memory : RefusesIf true (Err Memory)
+refuses_memory : RefusesIf {T = Unit} true (Err Memory)
 refuses_memory = refl
 
-refuses_nothing_else : RefusesIf true (Err TooLong) → ⊥
+refuses_nothing_else : RefusesIf {T = Unit} true (Err TooLong) → ⊥
 refuses_nothing_else is = absurd (cc)
 
-refuses_never : RefusesIf false (Err Memory) → ⊥
+refuses_never : RefusesIf {T = Unit} false (Err Memory) → ⊥
 refuses_never is = absurd (cc)
 
 order_of_nothing : text_order reverse [] ≡ []

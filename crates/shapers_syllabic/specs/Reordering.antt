@@ -43,7 +43,7 @@ abbrev pub TakesText : (List ℕ → Type 0) → Glyphs → Type 0
 TakesText takes gs = AllByRecursion takes (map glyph_numbers (syllables gs))
 
 -- an order that may refuse does so for want of memory alone, and another never does
-abbrev pub RefusesIf : Bool → Result Unit ShaperError → Type 0
+abbrev pub RefusesIf : {T : Type 0} → Bool → Result T ShaperError → Type 0
 RefusesIf true result = IsOkUnless result Memory
 RefusesIf false result = IsOk result
 

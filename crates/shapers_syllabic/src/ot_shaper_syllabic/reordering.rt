@@ -1,17 +1,20 @@
 //! Reordering a text syllable by syllable.
-ghost use Rattle.std.specs.Prelude.{◌≡◌, ◌<◌, ◌≤◌, ℕ, [], OnOk, false, true, drop, get_or, length};
+ghost use Rattle.std.specs.Prelude.{◌≡◌, ◌<◌, ◌≤◌, ◌-◌, ℕ, [], IfOk, OnOk, drop, get_or, length};
 ghost use Rattle.std.specs.List.{position};
 ghost use Rattle.shapers_buffer.specs.Clusters.{stretch_of};
 ghost use Rattle.shapers_buffer.specs.Glyph.{default_glyph};
 ghost use Rattle.shapers_syllabic.specs.Borders.{MeetAtBorder};
 ghost use Rattle.shapers_syllabic.specs.Reordering.{RefusesIf, SyllablesLinked, TakesText, TextOrdered, glyph_numbers};
 ghost use Rattle.shapers_clusters.specs.CarriedGroups.{AreCarried, CanTakeBack, GroupsGuarded, GroupsTakenBack};
-ghost use Rattle.shapers_syllabic.specs.ReorderingWalk.{CarryingFits, NextChanging, ReorderedBehind, groups_written};
+ghost use Rattle.shapers_syllabic.specs.ReorderingWalk.{CarryingFits, NextChanging, ReorderedBehind, RestLinked, TakesRest, ToLink, groups_written};
 ghost use Rattle.shapers_buffer.specs.Glyphs.{Glyphs};
 
 use shapers_base::buffer::{GlyphWalk, GroupRoom, ShaperError, hb_buffer_t, hb_glyph_info_t};
 use shapers_clusters::carried_groups::CarriedGroups;
-use shapers_clusters::floods::floods_again;
+
+// After how many glyphs the walk looks whether merges have flooded what stands before these: the
+// syllables among so few flood it a few times at most, and a look at each would cost more.
+const STRIDE: usize = 64;
 
 /// Which glyphs may change their syllable.
 pub trait MayChange {
@@ -146,71 +149,103 @@ pub fn reorder_syllables_by_steps<R: ReorderBySteps>(
         (SyllablesLinked (R.relation order.now) buffer.old buffer.new) }
     ensures refusal { RefusesIf (R.may_refuse order.now) result }
 {
-    if floods_again(buffer.glyphs()) {
-        reorder_carrying(order, buffer)
-    } else {
-        reorder_syllables(order, buffer)
-    }
-}
-
-// Reorders the syllables of a text whose clusters fall: what merges flood before their syllables is
-// carried along and written once, in room that the buffer lends.
-#[inline(never)]
-fn reorder_carrying<R: ReorderBySteps>(
-    order: &R,
-    buffer: &mut hb_buffer_t,
-) -> Result<(), ShaperError>
-    requires without_positions { buffer.old.positions ≡ [] }
-    requires takes { TakesText (R.takes order.now) buffer.old.glyphs }
-    ensures ordered { OnOk result
-        (TextOrdered (R.meaning order.now buffer.old.script) buffer.old buffer.new) }
-    ensures linked { OnOk result
-        (SyllablesLinked (R.relation order.now) buffer.old buffer.new) }
-    ensures refusal { RefusesIf (R.may_refuse order.now) result }
-{
-    let mut carrying = Carrying::with_room(buffer.take_group_room());
-    let reordered = reorder_along(order, &mut carrying, buffer);
-    buffer.put_group_room_back(carrying.groups.into_room());
-    reordered
-}
-
-// Reorders the syllables one after another behind what is carried, and writes that.
-#[inline]
-fn reorder_along<R: ReorderBySteps>(
-    order: &R,
-    carrying: &mut Carrying,
-    buffer: &mut hb_buffer_t,
-) -> Result<(), ShaperError>
-    requires without_positions { buffer.old.positions ≡ [] }
-    requires takes { TakesText (R.takes order.now) buffer.old.glyphs }
-    requires start { carrying.old.groups.start ≡ 0 }
-    requires end { carrying.old.groups.end ≡ 0 }
-    requires none { carrying.old.groups.groups.items ≡ [] }
-    requires off { carrying.old.is_on ≡ false }
-    ensures ordered { OnOk result
-        (TextOrdered (R.meaning order.now buffer.old.script) buffer.old buffer.new) }
-    ensures linked { OnOk result
-        (SyllablesLinked (R.relation order.now) buffer.old buffer.new) }
-    ensures refusal { RefusesIf (R.may_refuse order.now) result }
-{
     let mut start = 0;
-    while let Some(first) = next_changing(order, buffer.glyphs(), start) {
-        let after = buffer.next_syllable(first);
-        reorder_behind(order, carrying, buffer, first, after)?;
-        start = after;
+    while start < buffer.len() {
+        let cluster = cluster_before(buffer.glyphs(), start);
+        let next = reorder_some(order, buffer, start)?;
+        if cluster_before(buffer.glyphs(), start) != cluster {
+            return reorder_carrying(order, buffer, next);
+        }
+        start = next;
     }
-    carrying.write(buffer);
     buffer.clear_places();
     Ok(())
 }
 
-// What is carried along: groups of glyphs that aren't written yet, from the first syllable on that
-// floods what stands before it.
-#[derive(Drop)]
-struct Carrying {
-    groups: CarriedGroups,
-    // whether a syllable has flooded what stands before it
-    is_on: bool,
+// Reorders the syllables from one on, up to one that ends a stride behind it or later, or all. It
+// returns where the rest starts.
+#[inline]
+fn reorder_some<R: ReorderBySteps>(
+    order: &R,
+    buffer: &mut hb_buffer_t,
+    from: usize,
+) -> Result<usize, ShaperError>
+    requires without_positions { buffer.old.positions ≡ [] }
+    requires rest { TakesRest (R.takes order.now) from buffer.old }
+    ensures linked { IfOk result (λ next. ToLink (R.takes order.now) (R.relation order.now)
+        from buffer.old buffer.new next) }
+    ensures less { let left = length buffer.old.glyphs - from in
+        IfOk result (λ next. 0 < left → length buffer.new.glyphs - next < left) }
+    ensures refusal { RefusesIf (R.may_refuse order.now) result }
+{
+    let enough = from.saturating_add(STRIDE);
+    let mut start = from;
+    while let Some(first) = next_changing(order, buffer.glyphs(), start) {
+        let next = buffer.next_syllable(first);
+        order.reorder(buffer, first, next)?;
+        if next >= enough {
+            return Ok(next);
+        }
+        start = next;
+    }
+    Ok(buffer.len())
+}
+
+// The cluster of the glyph before a place.
+#[inline]
+fn cluster_before(glyphs: &[hb_glyph_info_t], place: usize) -> u32 {
+    if place == 0 || place > glyphs.len() {
+        0
+    } else {
+        glyphs[place - 1].cluster
+    }
+}
+
+// Reorders the syllables from one on, behind some that flooded what stands before them: what merges
+// flood from here on is carried along and written once, in room that the buffer lends.
+#[cold]
+#[inline(never)]
+fn reorder_carrying<R: ReorderBySteps>(
+    order: &R,
+    buffer: &mut hb_buffer_t,
+    from: usize,
+) -> Result<(), ShaperError>
+    requires without_positions { buffer.old.positions ≡ [] }
+    requires rest { TakesRest (R.takes order.now) from buffer.old }
+    ensures linked { OnOk result (RestLinked (R.relation order.now) from buffer.old buffer.new) }
+    ensures refusal { RefusesIf (R.may_refuse order.now) result }
+{
+    let mut groups = CarriedGroups::with_room(buffer.take_group_room());
+    let reordered = reorder_along(order, &mut groups, buffer, from);
+    buffer.put_group_room_back(groups.into_room());
+    reordered
+}
+
+// Reorders the syllables from one on, one after another behind what is carried, and writes that.
+#[inline]
+fn reorder_along<R: ReorderBySteps>(
+    order: &R,
+    groups: &mut CarriedGroups,
+    buffer: &mut hb_buffer_t,
+    from: usize,
+) -> Result<(), ShaperError>
+    requires without_positions { buffer.old.positions ≡ [] }
+    requires rest { TakesRest (R.takes order.now) from buffer.old }
+    requires start { groups.old.start ≡ 0 }
+    requires end { groups.old.end ≡ 0 }
+    requires none { groups.old.groups.items ≡ [] }
+    ensures linked { OnOk result (RestLinked (R.relation order.now) from buffer.old buffer.new) }
+    ensures refusal { RefusesIf (R.may_refuse order.now) result }
+{
+    let mut start = from;
+    while let Some(first) = next_changing(order, buffer.glyphs(), start) {
+        let after = buffer.next_syllable(first);
+        reorder_guarded(order, groups, buffer, first, after)?;
+        start = after;
+    }
+    write(groups, buffer);
+    buffer.clear_places();
+    Ok(())
 }
 
 // The walk before a syllable. (A closure would do, but what it leaves in the groups that it borrows
@@ -262,155 +297,71 @@ impl<'a> GlyphWalk for TakingBack<'a> {
     }
 }
 
-impl Carrying {
-    // Carries nothing.
-    #[inline]
-    fn with_room(room: GroupRoom) -> Self
-        ensures start { result.groups.start ≡ 0 }
-        ensures end { result.groups.end ≡ 0 }
-        ensures none { result.groups.groups.items ≡ [] }
-        ensures off { result.is_on ≡ false }
-    {
-        Carrying {
-            groups: CarriedGroups::with_room(room),
-            is_on: false,
-        }
-    }
+// Lets one glyph stand for each group that the syllable from `first` to `end` could flood, and
+// returns how many these are.
+#[inline]
+fn guard(groups: &mut CarriedGroups, buffer: &mut hb_buffer_t, first: usize, end: usize) -> usize
+    requires in_order { first ≤ end }
+    requires in_range { end ≤ length buffer.old.glyphs }
+    requires fits { AreCarried groups.old buffer.old.glyphs }
+    requires further { groups.old.end ≤ first }
+    ensures guarded { GroupsGuarded first end groups.old buffer.old.glyphs
+        groups.new result buffer.new.glyphs }
+    ensures others { buffer.new ≡ record buffer.old { glyphs = buffer.new.glyphs } }
+{
+    let mut guarding = Guarding {
+        groups,
+        first,
+        end,
+        count: 0,
+    };
+    buffer.walk(&mut guarding);
+    guarding.count
+}
 
-    // Lets one glyph stand for each group that the syllable from `first` to `end` could flood, and
-    // returns how many these are.
-    #[inline]
-    fn guard(&mut self, buffer: &mut hb_buffer_t, first: usize, end: usize) -> usize
-        requires in_order { first ≤ end }
-        requires in_range { end ≤ length buffer.old.glyphs }
-        requires fits { AreCarried self.old.groups buffer.old.glyphs }
-        requires further { self.old.groups.end ≤ first }
-        ensures guarded { GroupsGuarded first end self.old.groups buffer.old.glyphs
-            self.new.groups result buffer.new.glyphs }
-        ensures on { self.new.is_on ≡ self.old.is_on }
-        ensures others { buffer.new ≡ record buffer.old { glyphs = buffer.new.glyphs } }
-    {
-        let mut guarding = Guarding {
-            groups: &mut self.groups,
-            first,
-            end,
-            count: 0,
-        };
-        buffer.walk(&mut guarding);
-        guarding.count
-    }
+// Takes back the glyphs that stood for so many groups while a syllable was reordered, and carries
+// what it flooded.
+#[inline]
+fn take_back(groups: &mut CarriedGroups, buffer: &mut hb_buffer_t, count: usize)
+    requires fits { CanTakeBack groups.old count buffer.old.glyphs }
+    ensures settled { GroupsTakenBack groups.old count buffer.old.glyphs
+        groups.new buffer.new.glyphs }
+    ensures others { buffer.new ≡ record buffer.old { glyphs = buffer.new.glyphs } }
+{
+    buffer.walk(&mut TakingBack { groups, count });
+}
 
-    // Takes back the glyphs that stood for so many groups while a syllable was reordered, and
-    // carries what it flooded.
-    #[inline]
-    fn take_back(&mut self, buffer: &mut hb_buffer_t, count: usize)
-        requires fits { CanTakeBack self.old.groups count buffer.old.glyphs }
-        ensures settled { GroupsTakenBack self.old.groups count buffer.old.glyphs
-            self.new.groups buffer.new.glyphs }
-        ensures on { self.new.is_on ≡ self.old.is_on }
-        ensures others { buffer.new ≡ record buffer.old { glyphs = buffer.new.glyphs } }
-    {
-        buffer.walk(&mut TakingBack {
-            groups: &mut self.groups,
-            count,
-        });
-    }
-
-    // Writes what is carried into the glyphs.
-    #[inline]
-    fn write(&mut self, buffer: &mut hb_buffer_t)
-        requires { AreCarried self.old.groups buffer.old.glyphs }
-        ensures { buffer.new ≡ groups_written self.old.groups buffer.old }
-    {
-        let len = buffer.len();
-        self.guard(buffer, len, len);
-    }
+// Writes what is carried into the glyphs.
+#[inline]
+fn write(groups: &mut CarriedGroups, buffer: &mut hb_buffer_t)
+    requires { AreCarried groups.old buffer.old.glyphs }
+    ensures { buffer.new ≡ groups_written groups.old buffer.old }
+{
+    let len = buffer.len();
+    guard(groups, buffer, len, len);
 }
 
 // Reorders a syllable, while one glyph stands for each group that it could flood.
-#[inline]
-fn reorder_behind<R: ReorderBySteps>(
-    order: &R,
-    carrying: &mut Carrying,
-    buffer: &mut hb_buffer_t,
-    first: usize,
-    end: usize,
-) -> Result<(), ShaperError>
-    requires in_order { first ≤ end }
-    requires in_range { end ≤ length buffer.old.glyphs }
-    requires without_positions { buffer.old.positions ≡ [] }
-    requires takes { R.takes order.now (glyph_numbers (stretch_of first end buffer.old.glyphs)) }
-    requires fits { CarryingFits first carrying.old buffer.old.glyphs }
-    ensures behind { OnOk result (ReorderedBehind (R.relation order.now) first end
-        carrying.old buffer.old carrying.new buffer.new) }
-    ensures refusal { RefusesIf (R.may_refuse order.now) result }
-{
-    if carrying.is_on {
-        reorder_guarded(order, carrying, buffer, first, end)
-    } else {
-        reorder_watched(order, carrying, buffer, first, end)
-    }
-}
-
-// Reorders a syllable, as long as none has flooded what stands before it, and sees whether this one
-// does.
-#[inline]
-fn reorder_watched<R: ReorderBySteps>(
-    order: &R,
-    carrying: &mut Carrying,
-    buffer: &mut hb_buffer_t,
-    first: usize,
-    end: usize,
-) -> Result<(), ShaperError>
-    requires off { carrying.old.is_on ≡ false }
-    requires in_order { first ≤ end }
-    requires in_range { end ≤ length buffer.old.glyphs }
-    requires without_positions { buffer.old.positions ≡ [] }
-    requires takes { R.takes order.now (glyph_numbers (stretch_of first end buffer.old.glyphs)) }
-    requires fits { CarryingFits first carrying.old buffer.old.glyphs }
-    ensures behind { OnOk result (ReorderedBehind (R.relation order.now) first end
-        carrying.old buffer.old carrying.new buffer.new) }
-    ensures refusal { RefusesIf (R.may_refuse order.now) result }
-{
-    let cluster = cluster_before(buffer.glyphs(), first);
-    order.reorder(buffer, first, end)?;
-    carrying.is_on = cluster_before(buffer.glyphs(), first) != cluster;
-    Ok(())
-}
-
-// The cluster of the glyph before a place.
-#[inline]
-fn cluster_before(glyphs: &[hb_glyph_info_t], place: usize) -> u32 {
-    if place == 0 || place > glyphs.len() {
-        0
-    } else {
-        glyphs[place - 1].cluster
-    }
-}
-
-// Reorders a syllable behind the first one that flooded what stands before it, while one glyph stands
-// for each group that it could flood.
 #[inline(never)]
 fn reorder_guarded<R: ReorderBySteps>(
     order: &R,
-    carrying: &mut Carrying,
+    groups: &mut CarriedGroups,
     buffer: &mut hb_buffer_t,
     first: usize,
     end: usize,
 ) -> Result<(), ShaperError>
-    requires on { carrying.old.is_on ≡ true }
     requires in_order { first ≤ end }
     requires in_range { end ≤ length buffer.old.glyphs }
     requires without_positions { buffer.old.positions ≡ [] }
     requires takes { R.takes order.now (glyph_numbers (stretch_of first end buffer.old.glyphs)) }
-    requires fits { CarryingFits first carrying.old buffer.old.glyphs }
+    requires fits { CarryingFits first groups.old buffer.old.glyphs }
     ensures behind { OnOk result (ReorderedBehind (R.relation order.now) first end
-        carrying.old buffer.old carrying.new buffer.new) }
+        groups.old buffer.old groups.new buffer.new) }
     ensures refusal { RefusesIf (R.may_refuse order.now) result }
 {
-    let count = carrying.guard(buffer, first, end);
+    let count = guard(groups, buffer, first, end);
     order.reorder(buffer, first, end)?;
-    carrying.take_back(buffer, count);
+    take_back(groups, buffer, count);
     Ok(())
 }
 

@@ -5,15 +5,15 @@ use Rattle.shapers_syllabic.proofs.ot_shaper_syllabic.reordering.reorder_guarded
 
 pub reorder-requires-clause-in_range : goal.reorder-requires-clause-in_range
 reorder-requires-clause-in_range g c =
-    let stands = guarded_stands c.args.first c.args.end c.guard-count.result c.args.carrying.now.groups
-    c.guard-count.new.self.groups c.args.buffer.now c.guard-count.new.buffer c.requires.fits.fits c.guard-count.ensures.guarded
+    let stands = guarded_stands c.args.first c.args.end c.guard-count.result c.args.groups.now
+    c.guard-count.new.groups c.args.buffer.now c.guard-count.new.buffer c.requires.fits.fits c.guard-count.ensures.guarded
     c.guard-count.ensures.others in
     search arith
 
 pub reorder-requires-clause-takes : goal.reorder-requires-clause-takes
 reorder-requires-clause-takes g c =
-    let stands = guarded_stands c.args.first c.args.end c.guard-count.result c.args.carrying.now.groups
-    c.guard-count.new.self.groups c.args.buffer.now c.guard-count.new.buffer c.requires.fits.fits c.guard-count.ensures.guarded
+    let stands = guarded_stands c.args.first c.args.end c.guard-count.result c.args.groups.now
+    c.guard-count.new.groups c.args.buffer.now c.guard-count.new.buffer c.requires.fits.fits c.guard-count.ensures.guarded
     c.guard-count.ensures.others in
     search (numbers_by_view c.args.first c.args.end c.guard-count.new.buffer.glyphs c.args.buffer.now.glyphs stands.view)
 
@@ -23,7 +23,7 @@ take_back-requires g c =
     record {
       fits = (behind_guarded (g.R.Reorder.meaning order) (g.R.ReorderBySteps.steps order) (g.R.Reorder.relation order)
           (g.met.R.ReorderBySteps.leads order) (g.met.R.ReorderBySteps.suffices order) (g.met.R.ReorderBySteps.laws order)
-          c.args.first c.args.end c.guard-count.result c.args.carrying.now.groups c.guard-count.new.self.groups c.args.buffer.now
+          c.args.first c.args.end c.guard-count.result c.args.groups.now c.guard-count.new.groups c.args.buffer.now
           c.guard-count.new.buffer c.reorder.new.buffer c.requires.in_order c.requires.in_range c.requires.fits.fits
           c.guard-count.ensures.guarded c.guard-count.ensures.others c.in_ok-reorder.ensures.related).can;
     }
@@ -33,15 +33,14 @@ returns-clause-behind g c =
     let order = c.args.order.now in
     let behind = behind_guarded (g.R.Reorder.meaning order) (g.R.ReorderBySteps.steps order) (g.R.Reorder.relation order)
     (g.met.R.ReorderBySteps.leads order) (g.met.R.ReorderBySteps.suffices order) (g.met.R.ReorderBySteps.laws order)
-    c.args.first c.args.end c.guard-count.result c.args.carrying.now.groups c.guard-count.new.self.groups c.args.buffer.now
+    c.args.first c.args.end c.guard-count.result c.args.groups.now c.guard-count.new.groups c.args.buffer.now
     c.guard-count.new.buffer c.reorder.new.buffer c.requires.in_order c.requires.in_range c.requires.fits.fits
     c.guard-count.ensures.guarded c.guard-count.ensures.others c.in_ok-reorder.ensures.related in
     let groups_settled = c.take_back.ensures.settled in
     record {
-      linked = behind.linked c.take_back.new.self.groups c.take_back.new.buffer groups_settled c.take_back.ensures.others;
+      linked = behind.linked c.take_back.new.groups c.take_back.new.buffer groups_settled c.take_back.ensures.others;
       fits = record {
         fits = groups_settled.fits;
         ends = omega arith;
-        off = λ off. absurd (cc);
       };
     }

@@ -6,7 +6,10 @@ use crate::generated::shapers_base::buffer::{
     Buffer, GlyphInfo, GlyphWalk, GroupRoom, ShaperError,
 };
 use crate::generated::shapers_clusters::carried_groups::CarriedGroups;
-use crate::generated::shapers_clusters::floods::floods_again;
+
+// After how many glyphs the walk looks whether merges have flooded what stands before these: the
+// syllables among so few flood it a few times at most, and a look at each would cost more.
+const STRIDE: usize = 64;
 
 /// Which glyphs may change their syllable.
 pub trait MayChange {
@@ -146,47 +149,82 @@ pub fn reorder_syllables_by_steps<R: ReorderBySteps>(
     order: &R,
     buffer: &mut Buffer,
 ) -> Result<(), ShaperError> {
-    if floods_again(buffer.glyphs()) {
-        reorder_carrying(order, buffer)
-    } else {
-        reorder_syllables(order, buffer)
-    }
-}
-
-// Reorders the syllables of a text whose clusters fall: what merges flood before their syllables is
-// carried along and written once, in room that the buffer lends.
-#[inline(never)]
-fn reorder_carrying<R: ReorderBySteps>(order: &R, buffer: &mut Buffer) -> Result<(), ShaperError> {
-    let mut carrying = Carrying::with_room(buffer.take_group_room());
-    let reordered = reorder_along(order, &mut carrying, buffer);
-    buffer.put_group_room_back(carrying.groups.into_room());
-    reordered
-}
-
-// Reorders the syllables one after another behind what is carried, and writes that.
-#[inline]
-fn reorder_along<R: ReorderBySteps>(
-    order: &R,
-    carrying: &mut Carrying,
-    buffer: &mut Buffer,
-) -> Result<(), ShaperError> {
     let mut start = 0;
-    while let Some(first) = next_changing(order, buffer.glyphs(), start) {
-        let after = buffer.next_syllable(first);
-        reorder_behind(order, carrying, buffer, first, after)?;
-        start = after;
+    while start < buffer.len() {
+        let cluster = cluster_before(buffer.glyphs(), start);
+        let next = reorder_some(order, buffer, start)?;
+        if cluster_before(buffer.glyphs(), start) != cluster {
+            return reorder_carrying(order, buffer, next);
+        }
+        start = next;
     }
-    carrying.write(buffer);
     buffer.clear_places();
     Ok(())
 }
 
-// What is carried along: groups of glyphs that aren't written yet, from the first syllable on that
-// floods what stands before it.
-struct Carrying {
-    groups: CarriedGroups,
-    // whether a syllable has flooded what stands before it
-    is_on: bool,
+// Reorders the syllables from one on, up to one that ends a stride behind it or later, or all. It
+// returns where the rest starts.
+#[inline]
+fn reorder_some<R: ReorderBySteps>(
+    order: &R,
+    buffer: &mut Buffer,
+    from: usize,
+) -> Result<usize, ShaperError> {
+    let enough = from.saturating_add(STRIDE);
+    let mut start = from;
+    while let Some(first) = next_changing(order, buffer.glyphs(), start) {
+        let next = buffer.next_syllable(first);
+        order.reorder(buffer, first, next)?;
+        if next >= enough {
+            return Ok(next);
+        }
+        start = next;
+    }
+    Ok(buffer.len())
+}
+
+// The cluster of the glyph before a place.
+#[inline]
+fn cluster_before(glyphs: &[GlyphInfo], place: usize) -> u32 {
+    if place == 0 || place > glyphs.len() {
+        0
+    } else {
+        glyphs[place - 1].cluster
+    }
+}
+
+// Reorders the syllables from one on, behind some that flooded what stands before them: what merges
+// flood from here on is carried along and written once, in room that the buffer lends.
+#[cold]
+#[inline(never)]
+fn reorder_carrying<R: ReorderBySteps>(
+    order: &R,
+    buffer: &mut Buffer,
+    from: usize,
+) -> Result<(), ShaperError> {
+    let mut groups = CarriedGroups::with_room(buffer.take_group_room());
+    let reordered = reorder_along(order, &mut groups, buffer, from);
+    buffer.put_group_room_back(groups.into_room());
+    reordered
+}
+
+// Reorders the syllables from one on, one after another behind what is carried, and writes that.
+#[inline]
+fn reorder_along<R: ReorderBySteps>(
+    order: &R,
+    groups: &mut CarriedGroups,
+    buffer: &mut Buffer,
+    from: usize,
+) -> Result<(), ShaperError> {
+    let mut start = from;
+    while let Some(first) = next_changing(order, buffer.glyphs(), start) {
+        let after = buffer.next_syllable(first);
+        reorder_guarded(order, groups, buffer, first, after)?;
+        start = after;
+    }
+    write(groups, buffer);
+    buffer.clear_places();
+    Ok(())
 }
 
 // The walk before a syllable. (A closure would do, but what it leaves in the groups that it borrows
@@ -218,103 +256,46 @@ impl<'a> GlyphWalk for TakingBack<'a> {
     }
 }
 
-impl Carrying {
-    // Carries nothing.
-    #[inline]
-    fn with_room(room: GroupRoom) -> Self {
-        Carrying {
-            groups: CarriedGroups::with_room(room),
-            is_on: false,
-        }
-    }
+// Lets one glyph stand for each group that the syllable from `first` to `end` could flood, and
+// returns how many these are.
+#[inline]
+fn guard(groups: &mut CarriedGroups, buffer: &mut Buffer, first: usize, end: usize) -> usize {
+    let mut guarding = Guarding {
+        groups,
+        first,
+        end,
+        count: 0,
+    };
+    buffer.walk(&mut guarding);
+    guarding.count
+}
 
-    // Lets one glyph stand for each group that the syllable from `first` to `end` could flood, and
-    // returns how many these are.
-    #[inline]
-    fn guard(&mut self, buffer: &mut Buffer, first: usize, end: usize) -> usize {
-        let mut guarding = Guarding {
-            groups: &mut self.groups,
-            first,
-            end,
-            count: 0,
-        };
-        buffer.walk(&mut guarding);
-        guarding.count
-    }
+// Takes back the glyphs that stood for so many groups while a syllable was reordered, and carries
+// what it flooded.
+#[inline]
+fn take_back(groups: &mut CarriedGroups, buffer: &mut Buffer, count: usize) {
+    buffer.walk(&mut TakingBack { groups, count });
+}
 
-    // Takes back the glyphs that stood for so many groups while a syllable was reordered, and
-    // carries what it flooded.
-    #[inline]
-    fn take_back(&mut self, buffer: &mut Buffer, count: usize) {
-        buffer.walk(&mut TakingBack {
-            groups: &mut self.groups,
-            count,
-        });
-    }
-
-    // Writes what is carried into the glyphs.
-    #[inline]
-    fn write(&mut self, buffer: &mut Buffer) {
-        let len = buffer.len();
-        self.guard(buffer, len, len);
-    }
+// Writes what is carried into the glyphs.
+#[inline]
+fn write(groups: &mut CarriedGroups, buffer: &mut Buffer) {
+    let len = buffer.len();
+    guard(groups, buffer, len, len);
 }
 
 // Reorders a syllable, while one glyph stands for each group that it could flood.
-#[inline]
-fn reorder_behind<R: ReorderBySteps>(
-    order: &R,
-    carrying: &mut Carrying,
-    buffer: &mut Buffer,
-    first: usize,
-    end: usize,
-) -> Result<(), ShaperError> {
-    if carrying.is_on {
-        reorder_guarded(order, carrying, buffer, first, end)
-    } else {
-        reorder_watched(order, carrying, buffer, first, end)
-    }
-}
-
-// Reorders a syllable, as long as none has flooded what stands before it, and sees whether this one
-// does.
-#[inline]
-fn reorder_watched<R: ReorderBySteps>(
-    order: &R,
-    carrying: &mut Carrying,
-    buffer: &mut Buffer,
-    first: usize,
-    end: usize,
-) -> Result<(), ShaperError> {
-    let cluster = cluster_before(buffer.glyphs(), first);
-    order.reorder(buffer, first, end)?;
-    carrying.is_on = cluster_before(buffer.glyphs(), first) != cluster;
-    Ok(())
-}
-
-// The cluster of the glyph before a place.
-#[inline]
-fn cluster_before(glyphs: &[GlyphInfo], place: usize) -> u32 {
-    if place == 0 || place > glyphs.len() {
-        0
-    } else {
-        glyphs[place - 1].cluster
-    }
-}
-
-// Reorders a syllable behind the first one that flooded what stands before it, while one glyph stands
-// for each group that it could flood.
 #[inline(never)]
 fn reorder_guarded<R: ReorderBySteps>(
     order: &R,
-    carrying: &mut Carrying,
+    groups: &mut CarriedGroups,
     buffer: &mut Buffer,
     first: usize,
     end: usize,
 ) -> Result<(), ShaperError> {
-    let count = carrying.guard(buffer, first, end);
+    let count = guard(groups, buffer, first, end);
     order.reorder(buffer, first, end)?;
-    carrying.take_back(buffer, count);
+    take_back(groups, buffer, count);
     Ok(())
 }
 
