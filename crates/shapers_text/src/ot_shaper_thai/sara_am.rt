@@ -226,11 +226,28 @@ pub fn rewrite_sara_am(buffer: &mut hb_buffer_t) -> Result<(), ShaperError>
     ensures without { let some = list_any (λ g. is_sara_am g.glyph_id) buffer.old.glyphs in
         some ≡ false → IsOk result }
 {
-    let len = buffer.len();
+    prove!(buffer.len() <= buffer.max_len());
     let count = count_sara_am(buffer);
     if count == 0 {
         return Ok(());
     }
+    rewrite_counted(buffer, count)
+}
+
+// The same of a text with so many SARA AM. (A text without any has a short way past this.)
+#[inline(never)]
+fn rewrite_counted(buffer: &mut hb_buffer_t, count: usize) -> Result<(), ShaperError>
+    requires without_positions { buffer.old.positions ≡ [] }
+    requires counted { count ≡ count_by (λ g. is_sara_am g.glyph_id) buffer.old.glyphs }
+    ensures ok { let gs = buffer.old.glyphs in
+        let stretches = sara_am_stretches buffer.old.level (characters gs) in
+        let merged = merge_all buffer.old.level stretches gs in
+        OnOk result (buffer.new ≡ record buffer.old { glyphs = glyphs_in_two merged }) }
+    ensures length { let wanted = length (glyphs_in_two buffer.old.glyphs) in
+        RefusesLength buffer.old.max_len wanted result }
+    ensures err { OnErr result (buffer.new ≡ buffer.old) }
+{
+    let len = buffer.len();
     buffer.grow(count)?;
     let level = buffer.cluster_level();
     buffer.with_glyphs_mut(|glyphs| rewrite_in_room(level, glyphs, len));

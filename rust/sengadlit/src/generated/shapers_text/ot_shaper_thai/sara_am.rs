@@ -186,11 +186,17 @@ fn rewrite_in_room(level: BufferClusterLevel, glyphs: &mut [GlyphInfo], len: usi
 ///
 /// [`MonotoneGraphemes`]: crate::BufferClusterLevel::MonotoneGraphemes
 pub fn rewrite_sara_am(buffer: &mut Buffer) -> Result<(), ShaperError> {
-    let len = buffer.len();
     let count = count_sara_am(buffer);
     if count == 0 {
         return Ok(());
     }
+    rewrite_counted(buffer, count)
+}
+
+// The same of a text with so many SARA AM. (A text without any has a short way past this.)
+#[inline(never)]
+fn rewrite_counted(buffer: &mut Buffer, count: usize) -> Result<(), ShaperError> {
+    let len = buffer.len();
     buffer.grow(count)?;
     let level = buffer.cluster_level();
     buffer.with_glyphs_mut(|glyphs| rewrite_in_room(level, glyphs, len));
