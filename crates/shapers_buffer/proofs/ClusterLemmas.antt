@@ -2,9 +2,9 @@
 use Rattle.std.proofs.Common.{◌≡◌, ◌<◌, ◌≤◌, ℕ, suc, ◌+◌, ◌-◌, not, ◌&&◌, nat_lt, List, [], ◌∷◌, ◌++◌, min, map, length, get_or, take, drop, reverse, refl, sym, ap, ◌∙◌, append_assoc, arith, length-take, length-drop, if◌then◌else◌, length-take-le}
 use Rattle.std.specs.Prelude.{fold}
 use Rattle.std.specs.List.{prefix_len, suffix_len}
-use Rattle.std.proofs.lemmas.List.{length-reverse, map-append, reverse-append, reverse-reverse, take_at, drop_at, drop-drop, take-take, drop-take, take-append-drop, drop_all, take_all, get_or-reverse, take-map, drop-map, append-nil, get_or-take, get_or-drop}
+use Rattle.std.proofs.lemmas.List.{length-append, length-reverse, map-append, reverse-append, reverse-reverse, take_at, drop_at, drop-drop, take-take, drop-take, take-append-drop, drop_all, take_all, get_or-reverse, take-map, drop-map, append-nil, get_or-take, get_or-drop}
 use Rattle.std.proofs.lemmas.List.Sums.{suffix_len-le-length}
-use Rattle.std.proofs.Math.Seq.{take-add}
+use Rattle.std.proofs.Math.Seq.{drop-append_seam, take-add, take-append_seam}
 use Rattle.shapers_buffer.specs.Glyphs.{Glyph, Glyphs}
 use Rattle.shapers_buffer.specs.Glyph.{clusters, default_glyph}
 use Rattle.shapers_buffer.specs.declared.buffer.level.BufferClusterLevel.{BufferClusterLevel}
@@ -162,3 +162,15 @@ pub parts_merged : (info before rest middle behind fb sc fa : Glyphs) (s e m : �
     → sc ≡ map (in_cluster m) middle → fa ≡ flooded (get_or middle (length middle - 1) default_glyph).cluster m behind
     → fb ++ (sc ++ fa) ≡ merged s e info
 parts_merged = search (arith, last-read, drop-drop, merged_is)
+
+-- the same of a text in two parts, whose stretch is the first n glyphs of the second
+pub parts_merged_across : (before rest middle behind fb sc fa : Glyphs) (n m : ℕ) → 1 < n → n ≤ length rest
+    → middle ≡ take n rest → behind ≡ drop n rest
+    → m ≡ least (clusters middle) → fb ≡ reverse (flooded (get_or middle 0 default_glyph).cluster m (reverse before))
+    → sc ≡ map (in_cluster m) middle → fa ≡ flooded (get_or middle (length middle - 1) default_glyph).cluster m behind
+    → fb ++ (sc ++ fa) ≡ merged (length before) (length before + n) (before ++ rest)
+parts_merged_across before rest middle behind fb sc fa n m two within mid beh =
+    let is : length before + n - length before ≡ n = omega arith in
+    parts_merged (before ++ rest) before rest middle behind fb sc fa (length before) (length before + n) m (omega arith)
+    (omega (arith, length-append before rest)) (sym (take-append_seam before rest)) (sym (drop-append_seam before rest))
+    (mid ∙ ap (λ k. take k rest) (sym is)) (beh ∙ ap (λ k. drop k rest) (sym is))

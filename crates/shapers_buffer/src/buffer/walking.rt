@@ -1,5 +1,5 @@
 //! Changes and walks of the glyphs in place, over the slice that the buffer keeps them in.
-ghost use Rattle.std.specs.Prelude.{◌≡◌, ◌<◌, ◌≤◌, List, length, map};
+ghost use Rattle.std.specs.Prelude.{◌≡◌, ◌<◌, ◌≤◌, List, [], length, map};
 ghost use Rattle.std.specs.Fn.{FnOnceReturnsAtMut};
 ghost use Rattle.shapers_buffer.specs.Clusters.{with_stretch};
 ghost use Rattle.shapers_buffer.specs.Glyphs.{Glyph, Glyphs};
@@ -49,6 +49,19 @@ pub trait PositionedWalk {
     fn walk(&self, glyphs: &mut [hb_glyph_info_t], positions: &mut [GlyphPosition])
         requires { can_walk self.now glyphs.old positions.old }
         ensures { walks self.now glyphs.old positions.old glyphs.new positions.new };
+}
+
+/// A change of the whole list of glyphs, which doesn't get longer.
+pub trait GlyphEditing {
+    ghost can_edit: { Self → Glyphs → Type 0 };
+
+    ghost edits: { Self → Self → Glyphs → Glyphs → Type 0 };
+
+    /// Changes the list.
+    fn edit(&mut self, glyphs: Vec<hb_glyph_info_t>) -> Vec<hb_glyph_info_t>
+        requires { can_edit self.old glyphs.items }
+        ensures edited { edits self.old self.new glyphs.items result.items }
+        ensures few { length result.items ≤ length glyphs.items };
 }
 
 impl hb_buffer_t {
@@ -131,6 +144,23 @@ impl hb_buffer_t {
         walk.walk(&mut glyphs);
         self.info = glyphs;
         self.pos = positions;
+    }
+
+    /// Changes the list of glyphs, while it is out of the buffer: a change that panics leaves the
+    /// buffer empty. The buffer has no positions afterwards. It takes no memory.
+    #[inline]
+    pub fn edit_outside<E: GlyphEditing>(&mut self, editing: &mut E)
+        requires { E.can_edit editing.old self.old.glyphs }
+        ensures edited { E.edits editing.old editing.new self.old.glyphs self.new.glyphs }
+        ensures others { self.new ≡ record self.old { glyphs = self.new.glyphs; positions = [] } }
+    {
+        let (alloc, len) = (self.alloc(), self.info.len());
+        let glyphs = mem::replace(&mut self.info, Vec::new(alloc));
+        self.pos.clear();
+        let mut glyphs = editing.edit(glyphs);
+        // (in plain Rust a caller's change may make the list longer than it should)
+        glyphs.truncate(len);
+        self.info = glyphs;
     }
 
     /// Walks over all glyphs. It takes no memory.

@@ -50,7 +50,9 @@ pub use group_room::{ClusterGroup, GroupRoom};
 pub use level::{BufferClusterLevel, Direction};
 pub use lig_props::LigProps;
 pub use lookup_record::LookupRecord;
-pub use merging::{IntoCluster, least_cluster, merge_clusters_in, put_into_cluster};
+pub use merging::{
+    IntoCluster, least_cluster, merge_clusters_across, merge_clusters_in, put_into_cluster,
+};
 pub use placement::Placement;
 pub use placements::{Arranged, Placements, SyllableReading};
 pub use refusal::ShaperError;
@@ -59,7 +61,9 @@ pub use settings::{BufferSettings, context_characters};
 pub use syllables::{Span, first_syllable_len, has_span_of_kind, set_syllable, spans_cover};
 pub use tag::{Script, Tag};
 pub use unicode_props::UnicodeProps;
-pub use walking::{GlyphChange, GlyphWalk, PositionedWalk, change_each_by_in, change_each_in};
+pub use walking::{
+    GlyphChange, GlyphEditing, GlyphWalk, PositionedWalk, change_each_by_in, change_each_in,
+};
 
 /// How many characters of context a buffer keeps on each side.
 pub const CONTEXT_LENGTH: usize = 5;

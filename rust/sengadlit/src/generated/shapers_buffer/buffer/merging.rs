@@ -68,6 +68,38 @@ pub fn merge_clusters_in(
     }
 }
 
+/// The merge rule over a text in two parts, whose stretch is the first `count` glyphs of the second.
+///
+/// # Panics
+///
+/// Where the second part has fewer.
+///
+/// <details><summary>Contract</summary>
+///
+/// # Contract
+///
+/// ```text
+/// requires in_range { count ≤ length rest.old }
+/// ensures text { let start = length before.old in
+///     before.new ++ rest.new ≡ merge level start (start + count) (before.old ++ rest.old) }
+/// ensures len { length before.new ≡ length before.old }
+/// ```
+///
+/// - `merge`: `crates/shapers_buffer/specs/Clusters.antt`
+///
+/// </details>
+#[inline]
+pub fn merge_clusters_across(
+    level: BufferClusterLevel,
+    before: &mut [GlyphInfo],
+    rest: &mut [GlyphInfo],
+    count: usize,
+) {
+    if merges(level) && count >= 2 {
+        merge_across(before, rest, count);
+    }
+}
+
 // Whether clusters merge at a level.
 #[inline]
 pub(super) fn merges(level: BufferClusterLevel) -> bool {
@@ -81,7 +113,13 @@ pub(super) fn merges(level: BufferClusterLevel) -> bool {
 #[inline]
 fn merge_stretch(info: &mut [GlyphInfo], start: usize, end: usize) {
     let (before, rest) = info.split_at_mut(start);
-    let (stretch, after) = rest.split_at_mut(end - start);
+    merge_across(before, rest, end - start);
+}
+
+// Merges the first glyphs of the second part of a text, of which there are at least two.
+#[inline]
+fn merge_across(before: &mut [GlyphInfo], rest: &mut [GlyphInfo], count: usize) {
+    let (stretch, after) = rest.split_at_mut(count);
     let first = stretch[0].cluster;
     let last = stretch[stretch.len() - 1].cluster;
     let least = least_cluster(stretch);

@@ -58,6 +58,24 @@ pub trait PositionedWalk {
     fn walk(&self, glyphs: &mut [GlyphInfo], positions: &mut [GlyphPosition]);
 }
 
+/// A change of the whole list of glyphs, which doesn't get longer.
+pub trait GlyphEditing {
+    /// Changes the list.
+    ///
+    /// <details><summary>Contract</summary>
+    ///
+    /// # Contract
+    ///
+    /// ```text
+    /// requires { can_edit self.old glyphs.items }
+    /// ensures edited { edits self.old self.new glyphs.items result.items }
+    /// ensures few { length result.items ≤ length glyphs.items }
+    /// ```
+    ///
+    /// </details>
+    fn edit(&mut self, glyphs: Vec<GlyphInfo>) -> Vec<GlyphInfo>;
+}
+
 impl Buffer {
     /// Changes each glyph from `start` to `end`. It takes no memory.
     ///
@@ -182,6 +200,31 @@ impl Buffer {
         walk.walk(&mut glyphs);
         self.info = glyphs;
         self.pos = positions;
+    }
+
+    /// Changes the list of glyphs, while it is out of the buffer: a change that panics leaves the
+    /// buffer empty. The buffer has no positions afterwards. It takes no memory.
+    ///
+    /// <details><summary>Contract</summary>
+    ///
+    /// # Contract
+    ///
+    /// ```text
+    /// requires { E.can_edit editing.old self.old.glyphs }
+    /// ensures edited { E.edits editing.old editing.new self.old.glyphs self.new.glyphs }
+    /// ensures others { self.new ≡ record self.old { glyphs = self.new.glyphs; positions = [] } }
+    /// ```
+    ///
+    /// </details>
+    #[inline]
+    pub fn edit_outside<E: GlyphEditing>(&mut self, editing: &mut E) {
+        let (alloc, len) = (self.alloc(), self.info.len());
+        let glyphs = mem::replace(&mut self.info, Vec::new(alloc));
+        self.pos.clear();
+        let mut glyphs = editing.edit(glyphs);
+        // (in plain Rust a caller's change may make the list longer than it should)
+        glyphs.truncate(len);
+        self.info = glyphs;
     }
 
     /// Walks over all glyphs. It takes no memory.
