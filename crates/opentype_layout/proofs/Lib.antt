@@ -32,3 +32,5 @@ mod LookingRows
 mod PairRows
 mod SubstitutionRows
 mod PositionRows
+mod Gaps
+mod GapRows

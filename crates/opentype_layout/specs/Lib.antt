@@ -14,3 +14,4 @@ pub mod PositionTables
 pub mod LookupRows
 pub mod RuleHeads
 pub mod ContextTables
+pub mod Gapped

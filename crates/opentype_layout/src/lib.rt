@@ -8,6 +8,7 @@ pub mod class_refs;
 pub mod context_tables;
 pub mod face_tables;
 pub mod features;
+pub mod glyph_text;
 pub mod grid;
 pub mod heads;
 pub mod input;
