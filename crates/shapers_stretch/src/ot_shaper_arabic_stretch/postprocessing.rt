@@ -70,7 +70,26 @@ fn stretch_marks<F: hb_font_t>(
     if !buffer.has_stch() {
         return Ok(());
     }
-    // (a font that panics leaves the empty buffer, and none that is reversed or half laid)
+    stretch_apart(font, choice, buffer)
+}
+
+// Stretches a text that has tiles apart from the buffer: a font that panics leaves that empty, and
+// none that is reversed or half laid. (Texts without tiles should have a short way past this.)
+#[inline(never)]
+fn stretch_apart<F: hb_font_t>(
+    font: &F,
+    choice: StretchStart,
+    buffer: &mut hb_buffer_t,
+) -> Result<(), ShaperError>
+    requires marked { buffer.old.stch ≡ true }
+    requires positions { length buffer.old.positions ≡ length buffer.old.glyphs }
+    requires numbers { All (λ g. g.glyph_id ≤ 65535) buffer.old.glyphs }
+    ensures ok { OnOk result (buffer.new ≡ marks_stretched (F.font font.now) choice buffer.old) }
+    ensures refusal { let after = marks_stretched (F.font font.now) choice buffer.old in
+        Refuses (stretch_refusal (F.font font.now) choice buffer.old) buffer.old.max_len
+        (length after.glyphs) result }
+    ensures err { OnErr result (buffer.new ≡ buffer.old) }
+{
     let empty = hb_buffer_t::new(buffer.alloc(), buffer.max_len());
     let mut text = mem::replace(buffer, empty);
     let result = stretch_in_order(font, choice, &mut text);

@@ -69,7 +69,17 @@ fn stretch_marks<F: Font>(
     if !buffer.has_stch() {
         return Ok(());
     }
-    // (a font that panics leaves the empty buffer, and none that is reversed or half laid)
+    stretch_apart(font, choice, buffer)
+}
+
+// Stretches a text that has tiles apart from the buffer: a font that panics leaves that empty, and
+// none that is reversed or half laid. (Texts without tiles should have a short way past this.)
+#[inline(never)]
+fn stretch_apart<F: Font>(
+    font: &F,
+    choice: StretchStart,
+    buffer: &mut Buffer,
+) -> Result<(), ShaperError> {
     let empty = Buffer::new(buffer.alloc(), buffer.max_len());
     let mut text = mem::replace(buffer, empty);
     let result = stretch_in_order(font, choice, &mut text);
