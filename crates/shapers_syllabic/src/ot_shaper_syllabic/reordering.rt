@@ -9,7 +9,7 @@ ghost use Rattle.shapers_clusters.specs.CarriedGroups.{AreCarried, CanTakeBack, 
 ghost use Rattle.shapers_syllabic.specs.ReorderingWalk.{CarryingFits, NextChanging, ReorderedBehind, RestLinked, TakesRest, ToLink, groups_written};
 ghost use Rattle.shapers_buffer.specs.Glyphs.{Glyphs};
 
-use shapers_base::buffer::{GlyphWalk, GroupRoom, ShaperError, hb_buffer_t, hb_glyph_info_t};
+use shapers_base::buffer::{GlyphWalk, ShaperError, hb_buffer_t, hb_glyph_info_t};
 use shapers_clusters::carried_groups::CarriedGroups;
 
 // After how many glyphs the walk looks whether merges have flooded what stands before these: the

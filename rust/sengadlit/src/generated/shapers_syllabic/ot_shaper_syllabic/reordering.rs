@@ -2,9 +2,7 @@
 
 //! Reordering a text syllable by syllable.
 
-use crate::generated::shapers_base::buffer::{
-    Buffer, GlyphInfo, GlyphWalk, GroupRoom, ShaperError,
-};
+use crate::generated::shapers_base::buffer::{Buffer, GlyphInfo, GlyphWalk, ShaperError};
 use crate::generated::shapers_clusters::carried_groups::CarriedGroups;
 
 // After how many glyphs the walk looks whether merges have flooded what stands before these: the
