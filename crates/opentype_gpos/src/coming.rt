@@ -9,6 +9,7 @@ use crate::moves::{Move, PairPlace, move_by, pair_by_table};
 use crate::nearby::number;
 use crate::pass::{Pass, Sights};
 use opentype_face::lookup::subtable_count;
+use opentype_layout::glyph_text::GlyphView;
 use opentype_layout::rules::{Matched, find_rule};
 use opentype_layout::starts::LookupTable;
 use shapers_buffer::buffer::hb_glyph_info_t;
@@ -49,7 +50,7 @@ pub(crate) fn come_by<'a>(
             context,
             it.bytes,
             it.first,
-            glyphs,
+            &GlyphView::of(glyphs),
             at,
         ) {
             Some(matched) => Some(Came::Fits(matched)),

@@ -18,6 +18,7 @@ use crate::nearby::{
 use crate::pass::{Pass, Sights};
 use opentype_face::bytes::{table_at, u16_at};
 use opentype_face::lookup::subtable_count;
+use opentype_layout::glyph_text::GlyphView;
 use opentype_layout::looking::{Stretch, context_rules, count, flag_joins};
 use opentype_layout::position_tables::PositionRef;
 use opentype_layout::sight::Sight;
@@ -310,7 +311,10 @@ fn look_by(
     let (input, context) = (&sights.input, &sights.context);
     if it.kind == 7 || it.kind == 8 {
         return match context_rules(it.kind == 8, it.bytes, number(&glyphs[at])) {
-            Some(rules) => rules.look(pass.gdef, input, context, glyphs.len(), glyphs, at),
+            Some(rules) => {
+                let text = GlyphView::of(glyphs);
+                rules.look(pass.gdef, input, context, glyphs.len(), &text, at)
+            }
             None => Stretch::none(at),
         };
     }

@@ -151,7 +151,7 @@ started_less step gs r None h = omega arith
 started_less step gs r (Some (inl change)) h = h
 started_less step gs r (Some (inr b)) h = absurd h
 
-step_less : (s : Setting) (lookup : List ℕ) → is_some (first_from (u16_in lookup 4) (adding lookup) 0) ≡ false →
+pub step_less : (s : Setting) (lookup : List ℕ) → is_some (first_from (u16_in lookup 4) (adding lookup) 0) ≡ false →
     (gs : Glyphs) (at : ℕ) (r : LookupRecord) → length (lookup_stepped s lookup gs at r).text ≤ length gs
 unfolding lookup_stepped nested
 step_less s lookup none gs at r = let flagged = tried s lookup gs at in
@@ -168,7 +168,7 @@ if_walked : (n : ℕ) (test : Bool) (x y : Along) → length x.text ≤ n → le
 if_walked n true x y one two = one
 if_walked n false x y one two = two
 
-walk_less : (f : Glyphs → ℕ → LookupRecord → PlaceChange) →
+pub walk_less : (f : Glyphs → ℕ → LookupRecord → PlaceChange) →
     ((gs : Glyphs) (at : ℕ) (r : LookupRecord) → length (f gs at r).text ≤ length gs) →
     (n : ℕ) (gs : Glyphs) (at : ℕ) (r : LookupRecord) → length (lookup_applied n f gs at r).text ≤ length gs
 unfolding lookup_applied

@@ -26,7 +26,7 @@ pub put_few : (gdef : List ℕ) (at : ℕ) (gs : Glyphs) (to : ℕ) →
     length (slice_set gs at (replaced gdef to 0 (glyph_at gs at))) ≤ length gs
 put_few gdef at gs to = omega (arith, length-set gs at (replaced gdef to 0 (glyph_at gs at)))
 
-length-multiplied : (gdef sequence : List ℕ) (at : ℕ) (gs : Glyphs) → at < length gs →
+pub length-multiplied : (gdef sequence : List ℕ) (at : ℕ) (gs : Glyphs) → at < length gs →
     length (multiplied gdef sequence at gs) + 1 ≡ length gs + count_in sequence
 unfolding multiplied
 length-multiplied gdef sequence at gs lt =
@@ -53,7 +53,7 @@ choice : (test : Bool) (x y : Glyphs) (n : ℕ) → (test ≡ true → length x 
 choice true x y n one two = one refl
 choice false x y n one two = two refl
 
-length-handed : (level : BufferClusterLevel) (at : ℕ) (gs : Glyphs) → at < length gs →
+pub length-handed : (level : BufferClusterLevel) (at : ℕ) (gs : Glyphs) → at < length gs →
     length (handed_on level at gs) ≡ length gs
 unfolding handed_on
 length-handed level at gs lt =
@@ -103,7 +103,7 @@ length-removed (p ∷ ps) gs =
     let h = length-removed ps gs in
     let k = length-remove (removed_all ps gs) p in omega arith
 
-length-merged : (level : BufferClusterLevel) (at last : ℕ) (gs : Glyphs) → last < length gs →
+pub length-merged : (level : BufferClusterLevel) (at last : ℕ) (gs : Glyphs) → last < length gs →
     length (merged_up_to level at last gs) ≡ length gs
 unfolding merged_up_to
 length-merged level at last gs lt = choice (nat_lt at last) (merge level at (last + 1) gs) gs (length gs)

@@ -16,6 +16,7 @@ pub mod Kept
 pub mod LigatureKeeps
 pub mod LookupKeeps
 pub mod Lengths
+mod AsLong
 pub mod LawKeeps
 pub mod LawGrows
 pub mod Machines

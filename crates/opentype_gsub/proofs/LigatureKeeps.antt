@@ -33,13 +33,13 @@ mark_same : (number : ℕ) (c : Counted) (gs : Glyphs) (i : ℕ) →
     clusters (set gs i (as_mark number c (glyph_at gs i))) ≡ clusters gs
 mark_same number c gs i = clusters-set i gs (as_mark number c (glyph_at gs i)) (λ lt. cluster_mark number c (glyph_at gs i))
 
-one_same : (number : ℕ) (ps : List ℕ) (gs : Glyphs) (i : ℕ) (c : Counted) →
+pub one_same : (number : ℕ) (ps : List ℕ) (gs : Glyphs) (i : ℕ) (c : Counted) →
     clusters (marked_one number ps gs i c).text ≡ clusters gs
 unfolding marked_one
 one_same number ps gs i c = if_marked (clusters gs) (list_any (λ p. p == i) ps) _ _ refl
     (if_marked (clusters gs) (number == 0) _ _ refl (mark_same number c gs i))
 
-marked_same : (n number : ℕ) (ps : List ℕ) (gs : Glyphs) (i : ℕ) (c : Counted) →
+pub marked_same : (n number : ℕ) (ps : List ℕ) (gs : Glyphs) (i : ℕ) (c : Counted) →
     clusters (marks_inside n number ps gs i c).text ≡ clusters gs
 unfolding marks_inside
 marked_same zero number ps gs i c = refl
@@ -53,7 +53,7 @@ followed_same zero number c gs i = refl
 followed_same (suc n) number c gs i = if_same (clusters gs) (is_of_last c (glyph_at gs i)) _ gs
     (followed_same n number c (set gs i (as_mark number c (glyph_at gs i))) (i + 1) ∙ mark_same number c gs i) refl
 
-behind_same : (of_marks : Bool) (number : ℕ) (c : Counted) (gs : Glyphs) (from : ℕ) →
+pub behind_same : (of_marks : Bool) (number : ℕ) (c : Counted) (gs : Glyphs) (from : ℕ) →
     clusters (with_followers of_marks number c gs from) ≡ clusters gs
 unfolding with_followers
 behind_same of_marks number c gs from = if_same (clusters gs) (of_marks || (c.number == 0)) gs _ refl

@@ -1,14 +1,12 @@
 -- A text stays as it is where a lookup can't begin.
-use Rattle.std.proofs.Common.{◌⊎◌, inl, inr, ◌≡◌, ◌∙◌, ℕ, zero, suc, ◌+◌, ◌-◌, ◌%◌, ◌==◌, ◌<◌, ◌≤◌, ◌||◌, ◌&&◌, not, Bool, true, false, nat_lt, bit_and, Option, None, Some, List, [], length, get_or, refl, sym, ap, subst, arith, if◌then◌else◌}
+use Rattle.std.proofs.Common.{◌⊎◌, inl, inr, ◌≡◌, ◌∙◌, ℕ, zero, suc, ◌+◌, ◌-◌, ◌%◌, ◌==◌, ◌<◌, ◌≤◌, ◌||◌, ◌&&◌, not, Bool, true, false, nat_lt, bit_and, Option, None, Some, List, [], length, refl, sym, ap, subst, arith, if◌then◌else◌}
 use Rattle.std.specs.Option.{is_some, unwrap_or}
 use Rattle.std.proofs.lemmas.Bool.Decides.{nat_tests}
 use Rattle.std.proofs.lemmas.Grind.{common_steps}
-use Rattle.std.proofs.lemmas.List.{get_or_default}
 use Rattle.std.specs.Prelude.{Err, Ok, OnOk, Result}
 use Rattle.shapers_buffer.specs.Buffer.{Buffer}
 use Rattle.shapers_buffer.specs.declared.buffer.glyph.GlyphPosition.{GlyphPosition}
 use Rattle.shapers_buffer.specs.declared.buffer.refusal.ShaperError.{ShaperError}
-use Rattle.shapers_buffer.specs.Glyph.{default_glyph}
 use Rattle.shapers_buffer.specs.Glyphs.{Glyph, Glyphs}
 use Rattle.shapers_buffer.specs.declared.buffer.lookup_record.LookupRecord.{LookupRecord}
 use Rattle.opentype_face.specs.Bytes.{u16_in, table_at}
@@ -244,11 +242,6 @@ left_passed use_of lookup g p = elim p [
 pub all_passed : (use_of : LookupUse) (lookup : List ℕ) (gs : Glyphs) (from end : ℕ) →
     ArePassed false lookup use_of.mask gs from end → (j : ℕ) → from ≤ j → j < end → is_left use_of lookup (glyph_at gs j) ≡ true
 all_passed use_of lookup gs from end p j le lt = left_passed use_of lookup (glyph_at gs j) (p.each j le lt)
-
-pub left_read : (use_of : LookupUse) (lookup : List ℕ) (gs : Glyphs) (at : ℕ) (g : Glyph) → is_left use_of lookup g ≡ true →
-    g ≡ get_or gs at g → at < length gs → is_left use_of lookup (glyph_at gs at) ≡ true
-left_read use_of lookup gs at g e is lt =
-    subst (λ x. is_left use_of lookup x ≡ true) (is ∙ get_or_default gs at g default_glyph lt) e
 
 -- a subtable comes to nothing where it doesn't begin
 pub nth_unstarted : (s : Setting) (sights : Sights) (lookup : List ℕ) (at : ℕ) (gs : Glyphs) (r : LookupRecord) (i : ℕ) →

@@ -1,5 +1,5 @@
 -- What a subtable makes of a text and of the record of its lookups, at a place.
-use Rattle.std.specs.Prelude.{ℕ, ◌+◌, ◌-◌, ◌*◌, ◌/◌, ◌%◌, ◌==◌, ◌&&◌, ◌≡◌, ◌≤◌, Bool, false, bit_and, max, nat_lt, List, length, slice_set, take, Option, None, Some, if◌then◌else◌}
+use Rattle.std.specs.Prelude.{ℕ, ◌+◌, ◌-◌, ◌*◌, ◌/◌, ◌%◌, ◌==◌, ◌&&◌, ◌≡◌, Bool, false, bit_and, max, nat_lt, List, length, slice_set, Option, None, Some, if◌then◌else◌}
 use Rattle.std.specs.List.{remove}
 use Rattle.std.specs.Option.{option_and_then, option_map}
 use Rattle.shapers_buffer.specs.GlyphFlags.{unsafe_inside}
@@ -14,7 +14,6 @@ use Rattle.opentype_layout.specs.Text.{glyph_at}
 use Rattle.opentype_face.specs.Firsts.{first_from}
 use Rattle.opentype_gsub.specs.Ligatures.{nth_ligature}
 use Rattle.opentype_gsub.specs.Setting.{Setting}
-use Rattle.opentype_gsub.specs.declared.apply.Put.{Put}
 use Rattle.opentype_layout.specs.declared.sight.Sight.{Sight}
 
 -- the text afterwards, the place behind what was done, and the record of the text's lookups
@@ -30,15 +29,6 @@ IsChange change old before new after None =
     (change ≡ None) × ((new ≡ old) × (after ≡ before))
 IsChange change old before new after (Some next) =
     change ≡ Some (record { text = new; next = next; lookups = after })
-
--- the same in the room of the text, whose first glyphs are the text afterwards
-abbrev pub IsPut : Option PlaceChange → Glyphs → LookupRecord → Glyphs → LookupRecord →
-    Option Put → Type 0
-IsPut change old before new after None =
-    (change ≡ None) × ((new ≡ old) × (after ≡ before))
-IsPut change old before new after (Some put) =
-    (change ≡ Some (record { text = take put.len new; next = put.next; lookups = after }))
-    × (put.len ≤ length old)
 
 -- something of a text is left undone
 abbrev pub incomplete : LookupRecord → LookupRecord

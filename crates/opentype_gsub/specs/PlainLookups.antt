@@ -1,9 +1,7 @@
 -- Lookups that put single glyphs in: their subtables add no glyphs, and have no rules.
-use Rattle.std.specs.Prelude.{ℕ, ◌==◌, ◌||◌, ◌<◌, ◌≡◌, Bool, true, List, take, Option, None, Some}
-use Rattle.shapers_buffer.specs.Glyphs.{Glyphs}
+use Rattle.std.specs.Prelude.{ℕ, ◌==◌, ◌||◌, ◌<◌, ◌≡◌, Bool, true, List, Option, None, Some}
 use Rattle.opentype_face.specs.Bytes.{u16_in}
 use Rattle.opentype_face.specs.Lookups.{type_in}
-use Rattle.opentype_gsub.specs.declared.apply.Put.{Put}
 use Rattle.opentype_gsub.specs.declared.machine.Outcome.{Outcome}
 use Rattle.opentype_gsub.specs.declared.machine.Outcome.TheVariants.{Nothing, Done}
 
@@ -16,11 +14,7 @@ abbrev pub ArePlain : List ℕ → Type 0
 ArePlain lookup = (0 < u16_in lookup 4)
     × ((i : ℕ) → i < u16_in lookup 4 → is_plain (type_in 7 lookup i) ≡ true)
 
--- the outcome, and the text in its room, by what the code gives
-abbrev pub outcome_of : Option Put → Outcome
+-- the outcome by the place that the code gives
+abbrev pub outcome_of : Option ℕ → Outcome
 outcome_of None = Nothing
-outcome_of (Some put) = Done put.next
-
-abbrev pub text_of : Option Put → Glyphs → Glyphs
-text_of None gs = gs
-text_of (Some put) gs = take put.len gs
+outcome_of (Some next) = Done next

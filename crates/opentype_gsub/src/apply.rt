@@ -1,9 +1,8 @@
 //! What subtables make of a text at a place.
-ghost use Rattle.std.specs.Prelude.{◌≡◌, ◌<◌, ◌≤◌, ◌==◌, ◌-◌, ◌+◌, ℕ, false, length, slice_index, take, IfOk};
-ghost use Rattle.std.specs.Option.{option_map};
+ghost use Rattle.std.specs.Prelude.{◌≡◌, ◌<◌, ◌≤◌, ◌==◌, ◌-◌, ◌+◌, ℕ, false, length, slice_index, IfOk};
 ghost use Rattle.opentype_gsub.specs.Decided.{covered_in};
 ghost use Rattle.opentype_layout.specs.SubstitutionTables.{first_place};
-ghost use Rattle.opentype_gsub.specs.Applied.{IsChange, IsPut, alternate_put, chosen_put, is_random, ligature_put, ligated_put, multiple_put, next_state, two_byte_number, one_put, random_put, sequence_put, single_put, value_of};
+ghost use Rattle.opentype_gsub.specs.Applied.{IsChange, alternate_put, chosen_put, is_random, ligature_put, ligated_put, multiple_put, next_state, two_byte_number, one_put, random_put, sequence_put, single_put, value_of};
 ghost use Rattle.opentype_gsub.specs.Setting.{setting_of};
 ghost use Rattle.shapers_buffer.specs.declared.buffer.lookup_record.LookupRecord.{LookupRecord};
 
@@ -14,19 +13,18 @@ use crate::matching::{Fitting, first_fitting};
 use crate::pass::Pass;
 use opentype_face::bytes::u16_at;
 use opentype_face::class_table::ClassTable;
-use opentype_layout::sight::Sight;
+use opentype_layout::glyph_text::GlyphText;
+use opentype_layout::sight::{Sight, number};
 use opentype_layout::substitution_tables::SubtableAt;
-use shapers_buffer::buffer::{
-    BufferClusterLevel, LookupRecord, ShaperError, hb_glyph_info_t, unsafe_to_break_in,
-};
+use shapers_buffer::buffer::{BufferClusterLevel, LookupRecord, ShaperError, hb_glyph_info_t};
 
-/// What was done to a text at a place, in its room.
-#[derive(Clone, Copy, Debug)]
-pub struct Put {
-    /// The place behind what was done.
-    pub next: usize,
-    /// How many glyphs the text has then, at the front.
-    pub len: usize,
+// The place behind so many glyphs of a text. (The text's length fits a `usize`, and so does this.)
+#[inline]
+fn behind_sequence(text: &GlyphText, at: usize, count: u16) -> usize
+    requires { at + count ≤ length text.now }
+    ensures { result ≡ at + count }
+{
+    at.saturating_add(usize::from(count)).min(text.len())
 }
 
 /// Puts the glyphs of a sequence in for one, and returns the place behind them. More than the text
@@ -37,14 +35,14 @@ pub struct Put {
 /// `Memory`.
 pub fn put_sequence(
     pass: &Pass<'_>,
-    text: &mut Vec<hb_glyph_info_t>,
+    text: &mut GlyphText,
     lookups: &mut LookupRecord,
     at: usize,
     sequence: &[u8],
 ) -> Result<usize, ShaperError>
-    requires here { at < length text.old.items }
-    ensures { IfOk result (λ next. sequence_put (setting_of pass.now) at text.old.items lookups.old
-        sequence.now ≡ record { text = text.new.items; next = next; lookups = lookups.new }) }
+    requires here { at < length text.old }
+    ensures { IfOk result (λ next. sequence_put (setting_of pass.now) at text.old lookups.old
+        sequence.now ≡ record { text = text.new; next = next; lookups = lookups.new }) }
 {
     let count = count_of(sequence);
     if count == 0 {
@@ -60,16 +58,7 @@ pub fn put_sequence(
         return Ok(at + 1);
     }
     multiply(&pass.classes, text, at, sequence)?;
-    Ok(at.saturating_add(usize::from(count)))
-}
-
-// The number of a glyph of the text, of two bytes.
-#[inline]
-pub(crate) fn number(text: &[hb_glyph_info_t], at: usize) -> u16
-    requires { at < length text.now }
-    ensures { result ≡ two_byte_number text.now at }
-{
-    (text[at].glyph_id % 65536) as u16
+    Ok(behind_sequence(text, at, count))
 }
 
 #[tactic(auto, unfolding(crate::specs::Applied::single_put))]
@@ -77,7 +66,7 @@ fn apply_single(
     classes: &ClassTable<'_>,
     bytes: &[u8],
     place: Option<u32>,
-    text: &mut [hb_glyph_info_t],
+    text: &mut GlyphText,
     at: usize,
 ) -> Option<usize>
     requires here { at < length text.old }
@@ -85,7 +74,7 @@ fn apply_single(
     ensures { (r : LookupRecord) → IsChange (single_put classes.now.gdef.now bytes.now
         text.old at r) text.old r text.new r result }
 {
-    match single_at(bytes, number(text, at), place) {
+    match single_at(bytes, number(text.at(at)), place) {
         Some(to) => {
             replace(classes, text, at, to, 0);
             Some(at + 1)
@@ -100,7 +89,7 @@ fn apply_alternate(
     bytes: &[u8],
     place: Option<u32>,
     value: u32,
-    text: &mut [hb_glyph_info_t],
+    text: &mut GlyphText,
     at: usize,
 ) -> Option<usize>
     requires here { at < length text.old }
@@ -122,14 +111,14 @@ fn apply_multiple(
     pass: &Pass<'_>,
     bytes: &[u8],
     place: Option<u32>,
-    text: &mut Vec<hb_glyph_info_t>,
+    text: &mut GlyphText,
     lookups: &mut LookupRecord,
     at: usize,
 ) -> Result<Option<usize>, ShaperError>
-    requires here { at < length text.old.items }
-    requires place { place ≡ covered_in bytes.now (two_byte_number text.old.items at) }
+    requires here { at < length text.old }
+    requires place { place ≡ covered_in bytes.now (two_byte_number text.old at) }
     ensures { IfOk result (λ next. IsChange (multiple_put (setting_of pass.now) bytes.now
-        text.old.items at lookups.old) text.old.items lookups.old text.new.items lookups.new next) }
+        text.old at lookups.old) text.old lookups.old text.new lookups.new next) }
 {
     match set_by(bytes, place) {
         Some(sequence) => Ok(Some(put_sequence(pass, text, lookups, at, sequence)?)),
@@ -145,49 +134,44 @@ fn apply_ligature(
     sight: &Sight,
     bytes: &[u8],
     place: Option<u32>,
-    text: &mut [hb_glyph_info_t],
+    text: &mut GlyphText,
     at: usize,
-) -> Option<Put>
+) -> Option<usize>
     requires here { at < length text.old }
     requires place { place ≡ covered_in bytes.now (two_byte_number text.old at) }
-    ensures { (r : LookupRecord) → IsPut (ligated_put classes.now.gdef.now level sight.now
+    ensures { (r : LookupRecord) → IsChange (ligated_put classes.now.gdef.now level sight.now
         bytes.now text.old at r) text.old r text.new r result }
 {
     let set = set_by(bytes, place)?;
-    match first_fitting(classes.gdef, sight, set, text, at) {
+    match first_fitting(classes.gdef, sight, set, &text.view(), at) {
         Some(fitting) => Some(put_ligature(classes, level, text, at, &fitting)),
         None => None,
     }
 }
 
-// Puts a ligature in.
+// Puts a ligature in. Returns the place behind it.
 fn put_ligature(
     classes: &ClassTable<'_>,
     level: BufferClusterLevel,
-    text: &mut [hb_glyph_info_t],
+    text: &mut GlyphText,
     at: usize,
     fitting: &Fitting,
-) -> Put
+) -> usize
     requires here { at < length text.old }
     requires within { (j : ℕ) → j < length fitting.now.places.items →
         slice_index fitting.now.places.items j < length text.old }
-    ensures change { (r : LookupRecord) → ligature_put classes.now.gdef.now level at text.old r
+    ensures { (r : LookupRecord) → ligature_put classes.now.gdef.now level at text.old r
         (fitting.now.glyph, fitting.now.places.items)
-        ≡ record { text = take result.len text.new; next = result.next; lookups = r } }
-    ensures few { result.len ≤ length text.old }
+        ≡ record { text = text.new; next = result; lookups = r } }
 {
     let places = fitting.places.as_slice();
     if places.is_empty() {
-        let len = text.len();
         replace(classes, text, at, fitting.glyph, 0);
-        return Put { next: at + 1, len };
+        return at + 1;
     }
     let last = places[places.len() - 1];
-    let len = ligate(classes, level, text, at, places, fitting.glyph);
-    Put {
-        next: (last + 1).saturating_sub(places.len()),
-        len,
-    }
+    ligate(classes, level, text, at, places, fitting.glyph);
+    last.saturating_sub(places.len() - 1)
 }
 
 // The value of a feature at a glyph.
@@ -224,7 +208,7 @@ fn apply_random(
     classes: &ClassTable<'_>,
     bytes: &[u8],
     place: Option<u32>,
-    text: &mut [hb_glyph_info_t],
+    text: &mut GlyphText,
     lookups: &mut LookupRecord,
     at: usize,
 ) -> Option<usize>
@@ -241,7 +225,7 @@ fn apply_random(
     lookups.random_state = next_state(lookups.random_state);
     let chosen = lookups.random_state % count + 1;
     let len = text.len();
-    unsafe_to_break_in(text, 0, len);
+    text.unsafe_to_break(0, len);
     replace(classes, text, at, u16_at(set, chosen as usize * 2), 0);
     Some(at + 1)
 }
@@ -253,7 +237,7 @@ fn apply_chosen(
     sight: &Sight,
     bytes: &[u8],
     place: Option<u32>,
-    text: &mut [hb_glyph_info_t],
+    text: &mut GlyphText,
     lookups: &mut LookupRecord,
     at: usize,
 ) -> Option<usize>
@@ -262,53 +246,39 @@ fn apply_chosen(
     ensures { IsChange (chosen_put (setting_of pass.now) sight.now bytes.now text.old at
         lookups.old) text.old lookups.old text.new lookups.new result }
 {
-    if is_random(pass.lookup.random, sight, &text[at]) {
+    if is_random(pass.lookup.random, sight, text.at(at)) {
         return apply_random(&pass.classes, bytes, place, text, lookups, at);
     }
-    let value = value(sight, &text[at]);
+    let value = value(sight, text.at(at));
     apply_alternate(&pass.classes, bytes, place, value, text, at)
 }
 
-// Where nothing is put in for several glyphs, their number stays.
-#[inline]
-fn put_up_to(next: Option<usize>, len: usize) -> Option<Put>
-    ensures { result ≡ option_map (λ next. record { next = next; len = len }) next }
-{
-    match next {
-        Some(next) => Some(Put { next, len }),
-        None => None,
-    }
-}
-
 /// What a subtable that adds no glyph makes of a text at a place, by the place of the glyph there in
-/// the set that it begins with, if it fits. The glyphs stay in their room.
+/// the set that it begins with: the place behind what it did, if it fits. It takes no memory.
 #[inline]
 #[tactic(auto, unfolding(crate::specs::Applied::one_put))]
 pub fn apply_in_room(
     pass: &Pass<'_>,
     sight: &Sight,
     subtable: &SubtableAt<'_>,
-    text: &mut [hb_glyph_info_t],
+    text: &mut GlyphText,
     lookups: &mut LookupRecord,
     at: usize,
-) -> Option<Put>
+) -> Option<usize>
     requires here { at < length text.old }
     requires few { (subtable.now.kind == 2) ≡ false }
     requires place { subtable.now.place ≡ first_place (record {
       kind = subtable.now.kind;
       bytes = subtable.now.bytes.now;
     }) (two_byte_number text.old at) }
-    ensures { IsPut (one_put (setting_of pass.now) sight.now subtable.now.kind
+    ensures { IsChange (one_put (setting_of pass.now) sight.now subtable.now.kind
         subtable.now.bytes.now text.old at lookups.old) text.old lookups.old text.new lookups.new
         result }
 {
-    let (bytes, place, len) = (subtable.bytes, subtable.place, text.len());
+    let (bytes, place) = (subtable.bytes, subtable.place);
     match subtable.kind {
-        1 => put_up_to(apply_single(&pass.classes, bytes, place, text, at), len),
-        3 => put_up_to(
-            apply_chosen(pass, sight, bytes, place, text, lookups, at),
-            len,
-        ),
+        1 => apply_single(&pass.classes, bytes, place, text, at),
+        3 => apply_chosen(pass, sight, bytes, place, text, lookups, at),
         4 => apply_ligature(&pass.classes, pass.level, sight, bytes, place, text, at),
         _ => None,
     }
@@ -326,27 +296,21 @@ pub fn apply_one(
     pass: &Pass<'_>,
     sight: &Sight,
     subtable: &SubtableAt<'_>,
-    text: &mut Vec<hb_glyph_info_t>,
+    text: &mut GlyphText,
     lookups: &mut LookupRecord,
     at: usize,
 ) -> Result<Option<usize>, ShaperError>
-    requires here { at < length text.old.items }
+    requires here { at < length text.old }
     requires place { subtable.now.place ≡ first_place (record {
       kind = subtable.now.kind;
       bytes = subtable.now.bytes.now;
-    }) (two_byte_number text.old.items at) }
+    }) (two_byte_number text.old at) }
     ensures { IfOk result (λ next. IsChange (one_put (setting_of pass.now) sight.now
-        subtable.now.kind subtable.now.bytes.now text.old.items at lookups.old) text.old.items
-        lookups.old text.new.items lookups.new next) }
+        subtable.now.kind subtable.now.bytes.now text.old at lookups.old) text.old
+        lookups.old text.new lookups.new next) }
 {
     if subtable.kind == 2 {
         return apply_multiple(pass, subtable.bytes, subtable.place, text, lookups, at);
     }
-    match apply_in_room(pass, sight, subtable, text, lookups, at) {
-        Some(put) => {
-            text.truncate(put.len);
-            Ok(Some(put.next))
-        }
-        None => Ok(None),
-    }
+    Ok(apply_in_room(pass, sight, subtable, text, lookups, at))
 }

@@ -6,8 +6,9 @@ ghost use Rattle.opentype_gsub.specs.Along.{lookup_stepped, lookup_applied};
 use crate::machine::apply_nested;
 use crate::pass::{Pass, Sights};
 use crate::presence::next_place;
+use opentype_layout::glyph_text::GlyphText;
 use opentype_layout::starts::LookupTable;
-use shapers_buffer::buffer::{LookupRecord, ShaperError, hb_glyph_info_t};
+use shapers_buffer::buffer::{LookupRecord, ShaperError};
 
 // What a lookup does at a place; the next place.
 #[inline]
@@ -16,18 +17,18 @@ fn step<'a>(
     pass: &Pass<'a>,
     sights: &Sights,
     lookup: &LookupTable<'a>,
-    text: &mut Vec<hb_glyph_info_t>,
+    text: &mut GlyphText,
     lookups: &mut LookupRecord,
     at: usize,
 ) -> Result<usize, ShaperError>
-    requires here { at < length text.old.items }
+    requires here { at < length text.old }
     requires sights { let it = setting_of pass.now in
         sights.now ≡ sights_within it.gdef it.lookup lookup.now 0 }
     ensures { IfOk result (λ next.
-        lookup_stepped (setting_of pass.now) lookup.now text.old.items at lookups.old
-        ≡ record { text = text.new.items; next = next; lookups = lookups.new }) }
+        lookup_stepped (setting_of pass.now) lookup.now text.old at lookups.old
+        ≡ record { text = text.new; next = next; lookups = lookups.new }) }
 {
-    if !pass.lookup.sees_by(pass.classes.gdef, sights, &text[at]) {
+    if !pass.lookup.sees_by(pass.classes.gdef, sights, text.at(at)) {
         return Ok(at + 1);
     }
     match apply_nested(pass, sights, lookup, text, lookups, at)? {
@@ -46,21 +47,21 @@ fn step<'a>(
 pub fn apply_along<'a>(
     pass: &Pass<'a>,
     lookup: &LookupTable<'a>,
-    text: &mut Vec<hb_glyph_info_t>,
+    text: &mut GlyphText,
     lookups: &mut LookupRecord,
     first: usize,
     steps: usize,
 ) -> Result<(), ShaperError>
     ensures { OnOk result (lookup_applied steps (lookup_stepped (setting_of pass.now) lookup.now)
-        text.old.items first lookups.old
-        ≡ record { text = text.new.items; lookups = lookups.new }) }
+        text.old first lookups.old
+        ≡ record { text = text.new; lookups = lookups.new }) }
 {
     let sights = pass
         .lookup
         .sights_within(pass.classes.gdef, lookup.bytes(), 0);
     let (mut at, mut steps) = (first, steps);
     while steps > 0 {
-        let place = next_place(&pass.lookup, lookup, text, at);
+        let place = next_place(&pass.lookup, lookup, &text.view(), at);
         if place >= text.len() {
             return Ok(());
         }

@@ -1,13 +1,14 @@
 //! What lookups do to glyphs.
-ghost use Rattle.std.specs.Prelude.{◌≡◌, ◌<◌, ◌≤◌, ◌-◌, length, take, OnOk, slice_set};
+ghost use Rattle.std.specs.Prelude.{◌≡◌, ◌<◌, ◌+◌, ◌^◌, length, OnOk, slice_set};
 ghost use Rattle.opentype_gsub.specs.Edits.{count_in, handed_on, last_place, merged_up_to, multiplied, new_props, sequence_glyph, removed_all, replaced};
 ghost use Rattle.opentype_layout.specs.Text.{glyph_at};
 ghost use Rattle.std.specs.List.{remove};
 
 use opentype_face::bytes::u16_at;
 use opentype_face::class_table::ClassTable;
+use opentype_layout::glyph_text::GlyphText;
 use shapers_buffer::buffer::{
-    BufferClusterLevel, GlyphProps, LigProps, ShaperError, hb_glyph_info_t, merge_clusters_in,
+    BufferClusterLevel, GlyphProps, LigProps, ShaperError, hb_glyph_info_t,
 };
 
 // The properties of a glyph that is put in.
@@ -42,19 +43,14 @@ pub fn replacement(
 }
 
 /// Puts another glyph in.
-pub fn replace(
-    classes: &ClassTable<'_>,
-    text: &mut [hb_glyph_info_t],
-    at: usize,
-    to: u16,
-    guess: u16,
-)
+pub fn replace(classes: &ClassTable<'_>, text: &mut GlyphText, at: usize, to: u16, guess: u16)
     requires { at < length text.old }
-    ensures { let gdef = classes.now.gdef.now in text.new ≡
+    ensures text { let gdef = classes.now.gdef.now in text.new ≡
         slice_set text.old at (replaced gdef to guess (glyph_at text.old at)) }
+    ensures next { at + 1 < 2 ^ 64 }
 {
-    let glyph = text[at];
-    text[at] = replacement(classes, to, guess, glyph);
+    let glyph = *text.at(at);
+    text.set(at, replacement(classes, to, guess, glyph));
 }
 
 // One of a sequence of glyphs that come in for one.
@@ -93,76 +89,72 @@ pub fn count_of(sequence: &[u8]) -> u16
 /// `Memory`.
 pub fn multiply(
     classes: &ClassTable<'_>,
-    text: &mut Vec<hb_glyph_info_t>,
+    text: &mut GlyphText,
     at: usize,
     sequence: &[u8],
 ) -> Result<(), ShaperError>
-    requires { at < length text.old.items }
-    ensures { OnOk result (text.new.items ≡ multiplied classes.now.gdef.now sequence.now at text.old.items) }
+    requires { at < length text.old }
+    ensures { OnOk result (text.new ≡ multiplied classes.now.gdef.now sequence.now at text.old) }
 {
-    let glyph = text.remove(at);
+    let glyph = *text.at(at);
+    text.remove(at);
     let count = count_of(sequence);
     for k in (0..count).rev() {
-        let table_at = glyph_of_sequence(classes, sequence, glyph, k);
-        text.insert(at, table_at).map_err(|_| ShaperError::Memory)?;
+        text.insert(at, glyph_of_sequence(classes, sequence, glyph, k))?;
     }
     Ok(())
 }
 
 // Hands the cluster of a glyph that goes on to a neighbour.
 #[tactic(auto, unfolding(crate::specs::Edits::handed_on))]
-fn hand_on(level: BufferClusterLevel, text: &mut [hb_glyph_info_t], at: usize)
+fn hand_on(level: BufferClusterLevel, text: &mut GlyphText, at: usize)
     requires { at < length text.old }
     ensures { text.new ≡ handed_on level at text.old }
 {
-    let here = text[at].cluster;
-    if at + 1 < text.len() && text[at + 1].cluster == here {
+    let here = text.at(at).cluster;
+    if at + 1 < text.len() && text.at(at + 1).cluster == here {
         return;
     }
     if at == 0 {
         if at + 1 < text.len() {
-            merge_clusters_in(level, text, at, at + 2);
+            text.merge_clusters(level, at, at + 2);
         }
         return;
     }
-    if here < text[at - 1].cluster {
-        merge_clusters_in(level, text, at - 1, at + 1);
+    if here < text.at(at - 1).cluster {
+        text.merge_clusters(level, at - 1, at + 1);
     }
 }
 
 /// Takes a glyph out, but not its place in the text.
-pub fn delete(level: BufferClusterLevel, text: &mut Vec<hb_glyph_info_t>, at: usize)
-    requires { at < length text.old.items }
-    ensures { text.new.items ≡ remove (handed_on level at text.old.items) at }
+pub fn delete(level: BufferClusterLevel, text: &mut GlyphText, at: usize)
+    requires { at < length text.old }
+    ensures { text.new ≡ remove (handed_on level at text.old) at }
 {
     hand_on(level, text, at);
     text.remove(at);
 }
 
-// Takes a glyph out. Those behind it move to the front by one place, and the last place is free.
-#[inline]
-fn take_out(text: &mut [hb_glyph_info_t], at: usize)
-    requires { at < length text.old }
-    ensures { take (length text.old - 1) text.new ≡ remove text.old at }
+// Takes glyphs out, the last first.
+pub(crate) fn remove_all(text: &mut GlyphText, places: &[usize])
+    ensures { text.new ≡ removed_all places.now text.old }
 {
-    let end = text.len();
-    text.copy_within(at + 1..end, at);
-}
-
-// Takes glyphs out, the last first. Returns how many are left, at the front.
-pub(crate) fn remove_all(text: &mut [hb_glyph_info_t], places: &[usize]) -> usize
-    ensures text { take result text.new ≡ removed_all places.now text.old }
-    ensures few { result ≤ length text.old }
-{
-    let mut len = text.len();
     for i in (0..places.len()).rev() {
         let place = places[i];
-        if place < len {
-            take_out(&mut text[..len], place);
-            len -= 1;
+        if place < text.len() {
+            text.remove(place);
         }
     }
-    len
+}
+
+// The place behind a glyph. (A text's length fits a `usize`, and so does this.)
+#[inline]
+pub(crate) fn place_behind(text: &GlyphText, at: usize) -> usize
+    requires { at < length text.now }
+    ensures { result ≡ at + 1 }
+{
+    let _len = text.len();
+    at + 1
 }
 
 // The last of a place and those behind it.
@@ -180,16 +172,12 @@ pub(crate) fn last_of(at: usize, places: &[usize]) -> usize
 // Merges the clusters of a stretch by its first place and its last one.
 #[inline]
 #[tactic(auto, unfolding(crate::specs::Edits::merged_up_to))]
-pub(crate) fn merge_up_to(
-    level: BufferClusterLevel,
-    text: &mut [hb_glyph_info_t],
-    at: usize,
-    last: usize,
-)
+pub(crate) fn merge_up_to(level: BufferClusterLevel, text: &mut GlyphText, at: usize, last: usize)
     requires { last < length text.old }
     ensures { text.new ≡ merged_up_to level at last text.old }
 {
     if at < last {
-        merge_clusters_in(level, text, at, last + 1);
+        let end = place_behind(text, last);
+        text.merge_clusters(level, at, end);
     }
 }

@@ -1,26 +1,36 @@
 //! Glyph flags: where a text can't be cut, since a lookup looked at both sides.
 ghost use Rattle.std.specs.Prelude.{◌≡◌};
 ghost use Rattle.opentype_gsub.specs.Flagged.{unbroken};
+ghost use Rattle.opentype_layout.specs.Looking.{unjoined};
 
-use opentype_layout::looking::is_short;
-use shapers_buffer::buffer::{hb_glyph_info_t, unsafe_to_break_in};
+use opentype_layout::glyph_text::GlyphText;
+use opentype_layout::looking::{Stretch, is_short};
+use shapers_buffer::buffer::BufferFlags;
 
 /// Flags a stretch as one with no break inside, as far as the text goes, in a text that had so many
 /// glyphs. A stretch of more than 255 glyphs isn't flagged.
 #[tactic(auto, unfolding(crate::specs::Flagged::unbroken))]
-pub(crate) fn flag_stretch(
-    glyphs: &mut [hb_glyph_info_t],
-    old_len: usize,
-    start: usize,
-    stop: usize,
-)
-    ensures { glyphs.new ≡ unbroken old_len start stop glyphs.old }
+pub(crate) fn flag_stretch(text: &mut GlyphText, old_len: usize, start: usize, stop: usize)
+    ensures { text.new ≡ unbroken old_len start stop text.old }
 {
-    let end = glyphs.len().min(stop);
+    let len = text.len();
+    let end = len.min(stop);
     if start > end {
         return;
     }
-    if is_short(end - start, old_len, glyphs.len()) {
-        unsafe_to_break_in(glyphs, start, end);
+    if is_short(end - start, old_len, len) {
+        text.unsafe_to_break(start, end);
+    }
+}
+
+/// Flags a stretch as one with no concatenation, as far as the text goes.
+#[tactic(auto, unfolding(opentype_layout::specs::Looking::unjoined))]
+pub(crate) fn flag_joins(text: &mut GlyphText, looked: Stretch)
+    ensures { text.new ≡ unjoined looked text.old }
+{
+    let end = text.len().min(looked.stop);
+    if looked.start < end {
+        let wanted = BufferFlags::PRODUCE_UNSAFE_TO_CONCAT;
+        text.unsafe_to_concat(wanted, looked.start, end);
     }
 }

@@ -1,12 +1,13 @@
 //! Type 4: a ligature in the place of several glyphs, and the marks that belong to it.
-ghost use Rattle.std.specs.Prelude.{◌≡◌, ◌==◌, ◌<◌, ◌≤◌, ◌-◌, ◌+◌, length, take, slice_set};
+ghost use Rattle.std.specs.Prelude.{◌≡◌, ◌==◌, ◌<◌, ◌≤◌, ◌-◌, ◌+◌, length, slice_set};
 ghost use Rattle.std.specs.List.{list_all, list_any};
 ghost use Rattle.opentype_gsub.specs.Edits.{last_place};
 ghost use Rattle.opentype_gsub.specs.Ligated.{as_letter, as_mark, components_of, counted_too, followed_by_marks, guess_for, is_mark_at, is_base_at, is_of_base, is_of_last, is_of_marks, ligature_joined, ligated, ligature_glyph, marks_inside, marked_one, number_before, number_for, with_followers};
 ghost use Rattle.opentype_layout.specs.Text.{glyph_at};
 
-use crate::edits::{last_of, merge_up_to, remove_all, replacement};
+use crate::edits::{last_of, merge_up_to, place_behind, remove_all, replacement};
 use opentype_face::class_table::ClassTable;
+use opentype_layout::glyph_text::GlyphText;
 use shapers_buffer::buffer::{
     BufferClusterLevel, GlyphProps, LigProps, UnicodeProps, hb_glyph_info_t,
 };
@@ -55,36 +56,36 @@ impl Counted {
 
 // Whether the glyph at a place is a mark.
 #[inline]
-fn is_mark(glyphs: &[hb_glyph_info_t], place: usize) -> bool
+fn is_mark(glyphs: &GlyphText, place: usize) -> bool
     ensures { result ≡ is_mark_at glyphs.now place }
 {
     if place < glyphs.len() {
-        glyphs[place].glyph_props.0 & 8 == 8
+        glyphs.at(place).glyph_props.0 & 8 == 8
     } else {
         false
     }
 }
 
 #[inline]
-fn is_base(glyphs: &[hb_glyph_info_t], place: usize) -> bool
+fn is_base(glyphs: &GlyphText, place: usize) -> bool
     ensures { result ≡ is_base_at glyphs.now place }
 {
     if place < glyphs.len() {
-        glyphs[place].glyph_props.0 & 2 == 2
+        glyphs.at(place).glyph_props.0 & 2 == 2
     } else {
         false
     }
 }
 
 // Whether all glyphs at some places are marks.
-fn all_marks(glyphs: &[hb_glyph_info_t], places: &[usize]) -> bool
+fn all_marks(glyphs: &GlyphText, places: &[usize]) -> bool
     ensures { result ≡ list_all (is_mark_at glyphs.now) places.now }
 {
     places.iter().all(|place| is_mark(glyphs, *place))
 }
 
 #[tactic(auto, unfolding(crate::specs::Ligated::is_of_marks))]
-fn of_marks(glyphs: &[hb_glyph_info_t], at: usize, places: &[usize]) -> bool
+fn of_marks(glyphs: &GlyphText, at: usize, places: &[usize]) -> bool
     ensures { result ≡ is_of_marks glyphs.now at places.now }
 {
     if !is_mark(glyphs, at) {
@@ -94,7 +95,7 @@ fn of_marks(glyphs: &[hb_glyph_info_t], at: usize, places: &[usize]) -> bool
 }
 
 #[tactic(auto, unfolding(crate::specs::Ligated::is_of_base))]
-fn of_base(glyphs: &[hb_glyph_info_t], at: usize, places: &[usize]) -> bool
+fn of_base(glyphs: &GlyphText, at: usize, places: &[usize]) -> bool
     ensures { result ≡ is_of_base glyphs.now at places.now }
 {
     if !is_base(glyphs, at) {
@@ -104,12 +105,12 @@ fn of_base(glyphs: &[hb_glyph_info_t], at: usize, places: &[usize]) -> bool
 }
 
 // The number of the nearest ligature before a place, or 0.
-fn nearest_number(glyphs: &[hb_glyph_info_t], at: usize) -> u8
+fn nearest_number(glyphs: &GlyphText, at: usize) -> u8
     requires { at ≤ length glyphs.now }
     ensures { result ≡ number_before at glyphs.now }
 {
     for i in (0..at).rev() {
-        let number = glyphs[i].lig_props.0 / 32;
+        let number = glyphs.at(i).lig_props.0 / 32;
         if number != 0 {
             return number;
         }
@@ -119,7 +120,7 @@ fn nearest_number(glyphs: &[hb_glyph_info_t], at: usize) -> u8
 
 // The number of a ligature; 0 where marks don't belong to it.
 #[tactic(auto, unfolding(crate::specs::Ligated::number_for))]
-fn number(glyphs: &[hb_glyph_info_t], at: usize, places: &[usize]) -> u8
+fn number(glyphs: &GlyphText, at: usize, places: &[usize]) -> u8
     requires { at ≤ length glyphs.now }
     ensures value { result ≡ number_for glyphs.now at places.now }
     ensures few { result < 8 }
@@ -150,21 +151,21 @@ fn mark(number: u8, counted: Counted, glyph: hb_glyph_info_t) -> hb_glyph_info_t
 }
 
 // The glyph at a place becomes a mark of a ligature with a number.
-fn mark_at(text: &mut [hb_glyph_info_t], i: usize, number: u8, counted: Counted)
+fn mark_at(text: &mut GlyphText, i: usize, number: u8, counted: Counted)
     requires few { number < 8 }
     requires here { i < length text.old }
     ensures { text.new ≡ slice_set text.old i (as_mark number counted (glyph_at text.old i)) }
 {
-    let glyph = text[i];
-    text[i] = mark(number, counted, glyph);
+    let glyph = *text.at(i);
+    text.set(i, mark(number, counted, glyph));
 }
 
 // With the glyph at a place.
-fn with_glyph(counted: Counted, glyphs: &[hb_glyph_info_t], i: usize) -> Counted
+fn with_glyph(counted: Counted, glyphs: &GlyphText, i: usize) -> Counted
     requires { i < length glyphs.now }
     ensures { result ≡ counted_too counted (glyph_at glyphs.now i) }
 {
-    counted.with(&glyphs[i])
+    counted.with(glyphs.at(i))
 }
 
 // Whether a place is one of the ligature's.
@@ -177,7 +178,7 @@ fn is_among(places: &[usize], i: usize) -> bool
 // The glyph at a place: one of the ligature's, or a mark among them.
 #[tactic(auto, unfolding(crate::specs::Ligated::marked_one))]
 fn mark_one(
-    text: &mut [hb_glyph_info_t],
+    text: &mut GlyphText,
     i: usize,
     places: &[usize],
     number: u8,
@@ -199,7 +200,7 @@ fn mark_one(
 
 // The glyphs between the ligature's, up to its last one.
 fn mark_inside(
-    text: &mut [hb_glyph_info_t],
+    text: &mut GlyphText,
     at: usize,
     last: usize,
     places: &[usize],
@@ -212,8 +213,9 @@ fn mark_inside(
     ensures { marks_inside (last - at) number places.now text.old (at + 1) counted
         ≡ record { text = text.new; counted = result } }
 {
+    let (first, end) = (place_behind(text, at), place_behind(text, last));
     let mut counted = counted;
-    for i in at + 1..last + 1 {
+    for i in first..end {
         counted = mark_one(text, i, places, number, counted);
     }
     counted
@@ -222,16 +224,16 @@ fn mark_inside(
 // Whether the glyph at a place is a mark of the last one's component.
 #[inline]
 #[tactic(auto, unfolding(crate::specs::Ligated::is_of_last))]
-fn follows(counted: Counted, glyphs: &[hb_glyph_info_t], i: usize) -> bool
+fn follows(counted: Counted, glyphs: &GlyphText, i: usize) -> bool
     requires { i < length glyphs.now }
     ensures { result ≡ is_of_last counted (glyph_at glyphs.now i) }
 {
-    let props = glyphs[i].lig_props;
+    let props = glyphs.at(i).lig_props;
     props.0 / 32 == counted.number && props.component() != 0
 }
 
 // The marks from a place on that were of the last glyph.
-fn mark_followers(text: &mut [hb_glyph_info_t], from: usize, number: u8, counted: Counted)
+fn mark_followers(text: &mut GlyphText, from: usize, number: u8, counted: Counted)
     requires { number < 8 }
     ensures { text.new ≡ followed_by_marks (length text.old - from) number counted text.old from }
 {
@@ -244,13 +246,7 @@ fn mark_followers(text: &mut [hb_glyph_info_t], from: usize, number: u8, counted
 }
 
 #[tactic(auto, unfolding(crate::specs::Ligated::with_followers))]
-fn mark_behind(
-    text: &mut [hb_glyph_info_t],
-    of_marks: bool,
-    from: usize,
-    number: u8,
-    counted: Counted,
-)
+fn mark_behind(text: &mut GlyphText, of_marks: bool, from: usize, number: u8, counted: Counted)
     requires { number < 8 }
     ensures { text.new ≡ with_followers of_marks number counted text.old from }
 {
@@ -307,7 +303,7 @@ fn ligature(
 fn join(
     classes: &ClassTable<'_>,
     level: BufferClusterLevel,
-    text: &mut [hb_glyph_info_t],
+    text: &mut GlyphText,
     at: usize,
     places: &[usize],
     to: u16,
@@ -318,7 +314,7 @@ fn join(
 {
     let last = last_of(at, places);
     merge_up_to(level, text, at, last);
-    let first = text[at];
+    let first = *text.at(at);
     let number = number(text, at, places);
     let of_marks = of_marks(text, at, places);
     let none = Counted {
@@ -327,27 +323,25 @@ fn join(
         number: 0,
     };
     let counted = mark_inside(text, at, last, places, number, none.with(&first));
-    mark_behind(text, of_marks, last + 1, number, counted);
-    text[at] = ligature(classes, to, number, counted.all, first);
+    let behind = place_behind(text, last);
+    mark_behind(text, of_marks, behind, number, counted);
+    text.set(at, ligature(classes, to, number, counted.all, first));
 }
 
-/// Puts one glyph in for the one at a place and those at other places behind it. Returns how many
-/// glyphs are left, at the front.
+/// Puts one glyph in for the one at a place and those at other places behind it.
 #[tactic(auto, unfolding(crate::specs::Ligated::ligated))]
 pub fn ligate(
     classes: &ClassTable<'_>,
     level: BufferClusterLevel,
-    text: &mut [hb_glyph_info_t],
+    text: &mut GlyphText,
     at: usize,
     places: &[usize],
     to: u16,
-) -> usize
+)
     requires here { at < length text.old }
     requires behind { last_place at places.now < length text.old }
-    ensures text { take result text.new
-        ≡ ligated classes.now.gdef.now level at places.now to text.old }
-    ensures few { result ≤ length text.old }
+    ensures { text.new ≡ ligated classes.now.gdef.now level at places.now to text.old }
 {
     join(classes, level, text, at, places, to);
-    remove_all(text, places)
+    remove_all(text, places);
 }

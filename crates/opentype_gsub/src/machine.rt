@@ -4,13 +4,14 @@ ghost use Rattle.std.specs.Option.{option_map};
 ghost use Rattle.opentype_layout.specs.Rules.{context_in, found};
 ghost use Rattle.opentype_face.specs.Bytes.{u16_in};
 ghost use Rattle.opentype_face.specs.Firsts.{first_from};
+ghost use Rattle.opentype_gsub.specs.Applied.{two_byte_number};
 ghost use Rattle.opentype_gsub.specs.Came.{IsCome, begun, came_in, frame_of, nth_came};
 ghost use Rattle.opentype_gsub.specs.Machine.{IsEnded, lookup_called, deeper, nested, ran, machine_stepped, stack_left, waiting, waiting_frame};
 ghost use Rattle.opentype_gsub.specs.Setting.{setting_of, sights_of, sights_within};
 ghost use Rattle.opentype_gsub.specs.Looked.{tried};
 ghost use Rattle.opentype_layout.specs.Text.{glyph_at};
 
-use crate::apply::{apply_one, number};
+use crate::apply::apply_one;
 use crate::flagging::flag_stretch;
 use crate::pass::{Pass, Sights};
 use crate::shifting::Rule;
@@ -18,10 +19,12 @@ use crate::trying::flag_tried;
 use arrayvec::ArrayVec;
 use opentype_face::bytes::u16_at;
 use opentype_face::lookup::subtable_count;
+use opentype_layout::glyph_text::{GlyphText, GlyphView};
 use opentype_layout::rules::{Matched, find_rule};
+use opentype_layout::sight::number;
 use opentype_layout::starts::LookupTable;
 use opentype_layout::substitution_tables::SubtableRef;
-use shapers_buffer::buffer::{LookupRecord, ShaperError, hb_glyph_info_t};
+use shapers_buffer::buffer::{LookupRecord, ShaperError};
 use std::mem;
 
 /// Rules that wait for the end of a rule that one of their lookups found. With that one they are at
@@ -41,12 +44,7 @@ pub enum Outcome<'a> {
 
 // Begins a rule: no break may be inside what it looked at.
 #[tactic(auto, unfolding(crate::specs::Came::begun))]
-fn begin<'a>(
-    pass: &Pass<'_>,
-    chained: bool,
-    matched: Matched<'a>,
-    text: &mut [hb_glyph_info_t],
-) -> Rule<'a>
+fn begin<'a>(pass: &Pass<'_>, chained: bool, matched: Matched<'a>, text: &mut GlyphText) -> Rule<'a>
     ensures { begun (setting_of pass.now) chained text.old (found matched.entry)
         ≡ record { text = text.new; frame = frame_of result } }
 {
@@ -61,7 +59,7 @@ fn rule_of<'a>(
     pass: &Pass<'_>,
     sights: &Sights,
     subtable: &SubtableRef<'a>,
-    glyphs: &[hb_glyph_info_t],
+    glyphs: &GlyphView<'_>,
     at: usize,
 ) -> Option<Matched<'a>>
     requires inside { at < length glyphs.now }
@@ -78,38 +76,33 @@ fn rule_of<'a>(
     }
 }
 
-// What one of a lookup's subtables comes to at a place.
+// What one of a lookup's subtables comes to at a place, by the number of the glyph there.
 #[tactic(auto, unfolding(crate::specs::Came::nth_came))]
 fn come_by<'a>(
     pass: &Pass<'_>,
     sights: &Sights,
     lookup: &LookupTable<'a>,
     i: u16,
-    text: &mut Vec<hb_glyph_info_t>,
+    glyph: u16,
+    text: &mut GlyphText,
     lookups: &mut LookupRecord,
     at: usize,
 ) -> Result<Outcome<'a>, ShaperError>
-    requires { at < length text.old.items }
+    requires here { at < length text.old }
+    requires glyph { glyph ≡ two_byte_number text.old at }
     ensures { IfOk result (λ outcome. IsCome
-        (nth_came (setting_of pass.now) sights.now lookup.now at text.old.items lookups.old i)
-        text.old.items lookups.old text.new.items lookups.new outcome) }
+        (nth_came (setting_of pass.now) sights.now lookup.now at text.old lookups.old i)
+        text.old lookups.old text.new lookups.new outcome) }
 {
     let subtable = lookup.subtable(i);
     let kind = subtable.kind;
     if kind == 5 || kind == 6 {
-        return match rule_of(pass, sights, &subtable, text, at) {
+        return match rule_of(pass, sights, &subtable, &text.view(), at) {
             Some(matched) => Ok(Outcome::Fits(begin(pass, kind == 6, matched, text))),
             None => Ok(Outcome::Nothing),
         };
     }
-    match apply_one(
-        pass,
-        &sights.input,
-        &subtable.at(number(text, at)),
-        text,
-        lookups,
-        at,
-    )? {
+    match apply_one(pass, &sights.input, &subtable.at(glyph), text, lookups, at)? {
         Some(next) => Ok(Outcome::Done(next)),
         None => Ok(Outcome::Nothing),
     }
@@ -120,22 +113,22 @@ fn come_among<'a>(
     pass: &Pass<'_>,
     sights: &Sights,
     lookup: &LookupTable<'a>,
-    text: &mut Vec<hb_glyph_info_t>,
+    text: &mut GlyphText,
     lookups: &mut LookupRecord,
     at: usize,
 ) -> Result<Outcome<'a>, ShaperError>
-    requires { at < length text.old.items }
+    requires { at < length text.old }
     ensures { IfOk result (λ outcome. IsCome (first_from (u16_in lookup.now 4)
-        (nth_came (setting_of pass.now) sights.now lookup.now at text.old.items lookups.old) 0)
-        text.old.items lookups.old text.new.items lookups.new outcome) }
+        (nth_came (setting_of pass.now) sights.now lookup.now at text.old lookups.old) 0)
+        text.old lookups.old text.new lookups.new outcome) }
 {
-    let bytes = lookup.bytes();
+    let (bytes, glyph) = (lookup.bytes(), number(text.at(at)));
     let (count, mut from) = (subtable_count(bytes), 0);
     while from < count {
-        let Some(i) = lookup.next_start(false, number(text, at), from) else {
+        let Some(i) = lookup.next_start(false, glyph, from) else {
             return Ok(Outcome::Nothing);
         };
-        match come_by(pass, sights, lookup, i, text, lookups, at) {
+        match come_by(pass, sights, lookup, i, glyph, text, lookups, at) {
             Ok(Outcome::Nothing) => from = i + 1,
             Ok(Outcome::Done(next)) => return Ok(Outcome::Done(next)),
             Ok(Outcome::Fits(rule)) => return Ok(Outcome::Fits(rule)),
@@ -147,13 +140,13 @@ fn come_among<'a>(
 
 // What a lookup sees from the glyph at a place on.
 #[inline]
-fn seen_from(pass: &Pass<'_>, sights: &Sights, glyphs: &[hb_glyph_info_t], at: usize) -> Sights
-    requires { at < length glyphs.now }
+fn seen_from(pass: &Pass<'_>, sights: &Sights, text: &GlyphText, at: usize) -> Sights
+    requires { at < length text.now }
     ensures { let it = setting_of pass.now in (lookup : List ℕ) →
         sights.now ≡ sights_within it.gdef it.lookup lookup 0 →
-        result ≡ sights_of it.gdef it.lookup lookup (glyph_at glyphs.now at) }
+        result ≡ sights_of it.gdef it.lookup lookup (glyph_at text.now at) }
 {
-    pass.lookup.sights_from(sights, &glyphs[at])
+    pass.lookup.sights_from(sights, text.at(at))
 }
 
 // What a lookup comes to at a place.
@@ -161,15 +154,15 @@ fn come_to<'a>(
     pass: &Pass<'_>,
     sights: &Sights,
     lookup: &LookupTable<'a>,
-    text: &mut Vec<hb_glyph_info_t>,
+    text: &mut GlyphText,
     lookups: &mut LookupRecord,
     at: usize,
 ) -> Result<Outcome<'a>, ShaperError>
     requires { let it = setting_of pass.now in
         sights.now ≡ sights_within it.gdef it.lookup lookup.now 0 }
     ensures { IfOk result (λ outcome. IsCome
-        (came_in (setting_of pass.now) lookup.now text.old.items at lookups.old)
-        text.old.items lookups.old text.new.items lookups.new outcome) }
+        (came_in (setting_of pass.now) lookup.now text.old at lookups.old)
+        text.old lookups.old text.new lookups.new outcome) }
 {
     if at >= text.len() {
         return Ok(Outcome::Nothing);
@@ -183,15 +176,15 @@ fn try_at<'a>(
     pass: &Pass<'_>,
     sights: &Sights,
     lookup: &LookupTable<'a>,
-    text: &mut Vec<hb_glyph_info_t>,
+    text: &mut GlyphText,
     lookups: &mut LookupRecord,
     at: usize,
 ) -> Result<Outcome<'a>, ShaperError>
     requires { let it = setting_of pass.now in
         sights.now ≡ sights_within it.gdef it.lookup lookup.now 0 }
     ensures { IfOk result (λ outcome. let s = setting_of pass.now in
-        let gs = tried s lookup.now text.old.items at in
-        IsCome (came_in s lookup.now gs at lookups.old) gs lookups.old text.new.items lookups.new
+        let gs = tried s lookup.now text.old at in
+        IsCome (came_in s lookup.now gs at lookups.old) gs lookups.old text.new lookups.new
         outcome) }
 {
     flag_tried(pass, lookup.bytes(), text, at);
@@ -202,14 +195,14 @@ fn try_at<'a>(
 #[tactic(auto, unfolding(crate::specs::Machine::lookup_called))]
 fn call<'a>(
     pass: &Pass<'a>,
-    text: &mut Vec<hb_glyph_info_t>,
+    text: &mut GlyphText,
     lookups: &mut LookupRecord,
     rule: &mut Rule<'a>,
 ) -> Result<Option<Rule<'a>>, ShaperError>
     requires { rule.old.next < rule.old.count }
     ensures { IfOk result (λ inner.
-        lookup_called (setting_of pass.now) text.old.items lookups.old (frame_of rule.old) ≡ record {
-          text = text.new.items;
+        lookup_called (setting_of pass.now) text.old lookups.old (frame_of rule.old) ≡ record {
+          text = text.new;
           lookups = lookups.new;
           frame = frame_of rule.new;
           inner = option_map (λ r. frame_of r) inner;
@@ -276,14 +269,14 @@ fn go_deeper<'a>(called: Rule<'a>, rule: &mut Rule<'a>, callers: &mut Callers<'a
 // One turn of the machine; where it ends, the place behind what was done.
 fn step<'a>(
     pass: &Pass<'a>,
-    text: &mut Vec<hb_glyph_info_t>,
+    text: &mut GlyphText,
     lookups: &mut LookupRecord,
     rule: &mut Rule<'a>,
     callers: &mut Callers<'a>,
 ) -> Result<Option<usize>, ShaperError>
-    ensures { IfOk result (λ end. machine_stepped (setting_of pass.now) text.old.items lookups.old
+    ensures { IfOk result (λ end. machine_stepped (setting_of pass.now) text.old lookups.old
         (frame_of rule.old ∷ waiting callers.old.items) ≡ record {
-          text = text.new.items;
+          text = text.new;
           lookups = lookups.new;
           stack = stack_left end (frame_of rule.new) (waiting callers.new.items);
           end = option_map (λ e. Some e) end;
@@ -303,15 +296,15 @@ fn step<'a>(
 #[inline(never)]
 fn run_called<'a>(
     pass: &Pass<'a>,
-    text: &mut Vec<hb_glyph_info_t>,
+    text: &mut GlyphText,
     lookups: &mut LookupRecord,
     caller: Rule<'a>,
     called: Rule<'a>,
     operations: usize,
 ) -> Result<Option<usize>, ShaperError>
     ensures { IfOk result (λ end. ran operations (machine_stepped (setting_of pass.now))
-        text.old.items lookups.old (frame_of called.entry ∷ frame_of caller.entry ∷ [])
-        ≡ record { text = text.new.items; end = end; lookups = lookups.new }) }
+        text.old lookups.old (frame_of called.entry ∷ frame_of caller.entry ∷ [])
+        ≡ record { text = text.new; end = end; lookups = lookups.new }) }
 {
     let mut rule = called;
     let mut callers = Callers::new();
@@ -333,14 +326,14 @@ fn run_called<'a>(
 #[inline(never)]
 fn run<'a>(
     pass: &Pass<'a>,
-    text: &mut Vec<hb_glyph_info_t>,
+    text: &mut GlyphText,
     lookups: &mut LookupRecord,
     rule: Rule<'a>,
     operations: usize,
 ) -> Result<Option<usize>, ShaperError>
     ensures { IfOk result (λ end. ran operations (machine_stepped (setting_of pass.now))
-        text.old.items lookups.old (frame_of rule.entry ∷ [])
-        ≡ record { text = text.new.items; end = end; lookups = lookups.new }) }
+        text.old lookups.old (frame_of rule.entry ∷ [])
+        ≡ record { text = text.new; end = end; lookups = lookups.new }) }
 {
     let mut rule = rule;
     for done in 0..operations {
@@ -373,15 +366,15 @@ pub fn apply_nested<'a>(
     pass: &Pass<'a>,
     sights: &Sights,
     lookup: &LookupTable<'a>,
-    text: &mut Vec<hb_glyph_info_t>,
+    text: &mut GlyphText,
     lookups: &mut LookupRecord,
     at: usize,
 ) -> Result<Option<usize>, ShaperError>
     requires { let it = setting_of pass.now in
         sights.now ≡ sights_within it.gdef it.lookup lookup.now 0 }
     ensures { IfOk result (λ end.
-        nested (setting_of pass.now) lookup.now text.old.items at lookups.old
-        ≡ record { text = text.new.items; end = end; lookups = lookups.new }) }
+        nested (setting_of pass.now) lookup.now text.old at lookups.old
+        ≡ record { text = text.new; end = end; lookups = lookups.new }) }
 {
     // (`?` would move the rule once more, with the room for its places)
     match try_at(pass, sights, lookup, text, lookups, at) {

@@ -1,19 +1,21 @@
 //! Where the places of a rule find their glyphs, and which ligature fits.
-ghost use Rattle.std.specs.Prelude.{◌≡◌, ◌<◌, ◌-◌, ◌+◌, ℕ, Bool, true, None, length, IfSome, slice_index};
+ghost use Rattle.std.specs.Prelude.{◌≡◌, ◌<◌, ◌-◌, ◌+◌, ℕ, Bool, List, true, None, length, IfSome, slice_index};
 ghost use Rattle.std.specs.Option.{option_map};
-ghost use Rattle.opentype_face.specs.Bytes.{u16_in};
+ghost use Rattle.opentype_face.specs.Bytes.{table_at, u16_in};
 ghost use Rattle.opentype_face.specs.Firsts.{first_from};
 ghost use Rattle.opentype_gsub.specs.Ligatures.{nth_ligature, ligature_of};
 ghost use Rattle.opentype_layout.specs.Keys.{bars};
 ghost use Rattle.opentype_layout.specs.Pattern.{fits, next_in};
+ghost use Rattle.opentype_layout.specs.declared.sight.Sight.{Sight};
+ghost use Rattle.shapers_buffer.specs.Glyphs.{Glyphs};
 
 use opentype_face::bytes::{table_at, u16_at};
+use opentype_layout::glyph_text::GlyphView;
 use opentype_layout::input::find_input;
 use opentype_layout::keys::{Key, key_behind};
 use opentype_layout::pattern::Pattern;
 use opentype_layout::places::Places;
 use opentype_layout::sight::Sight;
-use shapers_buffer::buffer::hb_glyph_info_t;
 
 /// A ligature that fits, and where its glyphs behind the first one are.
 #[derive(Debug, Drop)]
@@ -24,19 +26,30 @@ pub struct Fitting {
     pub places: Places,
 }
 
-// A ligature, if it fits a place with a key for the rest of its glyphs.
+// Whether a key bars a ligature, which stands so many bytes behind the start of its set: the count of
+// its glyphs is above 1, and the key isn't the second one. Most ligatures of a set end here.
+#[inline]
+fn is_barred(key: &Key, set: &[u8], offset: usize) -> bool
+    requires few { offset < 65536 }
+    ensures { result ≡ true → (gdef : List ℕ) (sight : Sight) (gs : Glyphs) (at : ℕ) →
+        ((test : ℕ → ℕ → Bool) (k : ℕ) → bars key.now (test k) ≡ true →
+        next_in gdef sight test gs k (at + 1) ≡ None) →
+        ligature_of gdef sight gs at (table_at set.now offset) ≡ None }
+{
+    let (count, second) = (u16_at(set, offset + 2), u16_at(set, offset + 4));
+    count > 1 && key.bars(second)
+}
+
+// A ligature, if it fits a place.
 #[tactic(auto, unfolding(crate::specs::Ligatures::ligature_of, opentype_layout::specs::Pattern::fits))]
 fn fit_ligature(
     gdef: &[u8],
     sight: &Sight,
-    key: &Key,
     ligature: &[u8],
-    glyphs: &[hb_glyph_info_t],
+    glyphs: &GlyphView<'_>,
     at: usize,
 ) -> Option<Fitting>
-    requires inside { at < length glyphs.now }
-    requires key { (test : ℕ → ℕ → Bool) (k : ℕ) → bars key.now (test k) ≡ true →
-        next_in gdef.now sight.now test glyphs.now k (at + 1) ≡ None }
+    requires { at < length glyphs.now }
     ensures within { IfSome result (λ it. (j : ℕ) → j < length it.places.items →
         slice_index it.places.items j < length glyphs.now) }
     ensures value { option_map (λ it. (it.glyph, it.places.items)) result
@@ -44,9 +57,6 @@ fn fit_ligature(
 {
     let count = u16_at(ligature, 2);
     if count == 0 || count > 64 {
-        return None;
-    }
-    if count > 1 && key.bars(u16_at(ligature, 4)) {
         return None;
     }
     let pattern = Pattern::Glyphs(table_at(ligature, 4));
@@ -65,7 +75,7 @@ pub fn first_fitting(
     gdef: &[u8],
     sight: &Sight,
     set: &[u8],
-    glyphs: &[hb_glyph_info_t],
+    glyphs: &GlyphView<'_>,
     at: usize,
 ) -> Option<Fitting>
     requires { at < length glyphs.now }
@@ -74,10 +84,13 @@ pub fn first_fitting(
     ensures value { option_map (λ it. (it.glyph, it.places.items)) result
         ≡ first_from (u16_in set.now 0) (nth_ligature gdef.now sight.now glyphs.now at set.now) 0 }
 {
-    let key = key_behind(gdef, sight, glyphs, at + 1);
+    let key = key_behind(gdef, sight, glyphs, glyphs.after(at));
     for i in 0..u16_at(set, 0) {
-        let ligature = table_at(set, usize::from(u16_at(set, 2 + usize::from(i) * 2)));
-        let found = fit_ligature(gdef, sight, &key, ligature, glyphs, at);
+        let offset = usize::from(u16_at(set, 2 + usize::from(i) * 2));
+        if is_barred(&key, set, offset) {
+            continue;
+        }
+        let found = fit_ligature(gdef, sight, table_at(set, offset), glyphs, at);
         if found.is_some() {
             return found;
         }

@@ -1,26 +1,28 @@
-//! Lookups that add no glyphs and have no rules, in the room of a text.
-ghost use Rattle.std.specs.Prelude.{◌≡◌, ◌<◌, ◌≤◌, true, false, length, take, unwrap_or, IfSome, []};
+//! Lookups that add no glyphs and have no rules, in the buffer's own list.
+ghost use Rattle.std.specs.Prelude.{◌≡◌, ◌<◌, ◌≤◌, true, false, length, unwrap_or, IfSome, []};
 ghost use Rattle.opentype_face.specs.Bytes.{u16_in};
 ghost use Rattle.opentype_face.specs.Firsts.{first_from};
 ghost use Rattle.opentype_face.specs.Lookups.{type_in};
 ghost use Rattle.opentype_gsub.specs.Along.{lookup_stepped};
+ghost use Rattle.opentype_gsub.specs.Applied.{two_byte_number};
 ghost use Rattle.opentype_gsub.specs.Came.{IsCome, came_in, nth_came};
 ghost use Rattle.opentype_gsub.specs.Looked.{tried};
-ghost use Rattle.opentype_gsub.specs.PlainLookups.{ArePlain, is_plain, outcome_of, text_of};
+ghost use Rattle.opentype_gsub.specs.PlainLookups.{ArePlain, is_plain, outcome_of};
 ghost use Rattle.opentype_gsub.specs.Presence.{applied_from};
 ghost use Rattle.opentype_gsub.specs.Setting.{how_of, setting_of};
 ghost use Rattle.opentype_gsub.specs.declared.pass.Sights.{Sights};
 ghost use Rattle.opentype_layout.specs.Sight.{sight_of_input};
 ghost use Rattle.opentype_layout.specs.Starts.{NoneStarts};
 
-use crate::apply::{Put, apply_in_room, number};
+use crate::apply::apply_in_room;
 use crate::pass::Pass;
 use crate::presence::next_place;
 use crate::trying::flag_tried;
 use opentype_face::lookup::subtable_count;
-use opentype_layout::sight::Sight;
+use opentype_layout::glyph_text::GlyphText;
+use opentype_layout::sight::{Sight, number};
 use opentype_layout::starts::LookupTable;
-use shapers_buffer::buffer::{GlyphWalk, LookupRecord, hb_buffer_t, hb_glyph_info_t};
+use shapers_buffer::buffer::{GlyphEditing, LookupRecord, hb_buffer_t, hb_glyph_info_t};
 
 // Whether a subtable of a type puts single glyphs in, and has no rules.
 #[inline]
@@ -44,7 +46,7 @@ pub(crate) fn are_plain(lookup: &LookupTable<'_>) -> bool
     count > 0
 }
 
-// What one of a lookup's subtables does at a place.
+// What one of a lookup's subtables does at a place, by the number of the glyph there.
 #[inline]
 #[tactic(auto, unfolding(crate::specs::Came::nth_came))]
 fn put_by(
@@ -52,18 +54,19 @@ fn put_by(
     sight: &Sight,
     lookup: &LookupTable<'_>,
     i: u16,
-    text: &mut [hb_glyph_info_t],
+    glyph: u16,
+    text: &mut GlyphText,
     lookups: &mut LookupRecord,
     at: usize,
-) -> Option<Put>
+) -> Option<usize>
     requires here { at < length text.old }
+    requires glyph { glyph ≡ two_byte_number text.old at }
     requires plain { is_plain (type_in 7 lookup.now i) ≡ true }
-    ensures come { (sights : Sights) → sights.input ≡ sight.now →
-        IsCome (nth_came (setting_of pass.now) sights lookup.now at text.old lookups.old i) text.old lookups.old (text_of result text.new) lookups.new
-        (outcome_of result) }
-    ensures few { IfSome result (λ put. put.len ≤ length text.old) }
+    ensures { (sights : Sights) → sights.input ≡ sight.now →
+        IsCome (nth_came (setting_of pass.now) sights lookup.now at text.old lookups.old i)
+        text.old lookups.old text.new lookups.new (outcome_of result) }
 {
-    let subtable = lookup.subtable(i).at(number(text, at));
+    let subtable = lookup.subtable(i).at(glyph);
     apply_in_room(pass, sight, &subtable, text, lookups, at)
 }
 
@@ -88,25 +91,25 @@ fn put_among(
     pass: &Pass<'_>,
     sight: &Sight,
     lookup: &LookupTable<'_>,
-    text: &mut [hb_glyph_info_t],
+    text: &mut GlyphText,
     lookups: &mut LookupRecord,
     at: usize,
-) -> Option<Put>
+) -> Option<usize>
     requires here { at < length text.old }
     requires plain { ArePlain lookup.now }
-    ensures come { (sights : Sights) → sights.input ≡ sight.now →
+    ensures { (sights : Sights) → sights.input ≡ sight.now →
         IsCome (first_from (u16_in lookup.now 4)
         (nth_came (setting_of pass.now) sights lookup.now at text.old lookups.old) 0)
-        text.old lookups.old (text_of result text.new) lookups.new (outcome_of result) }
-    ensures few { IfSome result (λ put. put.len ≤ length text.old) }
+        text.old lookups.old text.new lookups.new (outcome_of result) }
 {
+    let glyph = number(text.at(at));
     let (count, mut from) = (subtable_count(lookup.bytes()), 0);
     while from < count {
-        let Some(i) = next_tried(lookup, count, number(text, at), from) else {
+        let Some(i) = next_tried(lookup, count, glyph, from) else {
             return None;
         };
-        match put_by(pass, sight, lookup, i, text, lookups, at) {
-            Some(put) => return Some(put),
+        match put_by(pass, sight, lookup, i, glyph, text, lookups, at) {
+            Some(next) => return Some(next),
             None => from = i + 1,
         }
     }
@@ -119,124 +122,111 @@ fn put_at(
     pass: &Pass<'_>,
     sight: &Sight,
     lookup: &LookupTable<'_>,
-    text: &mut [hb_glyph_info_t],
+    text: &mut GlyphText,
     lookups: &mut LookupRecord,
     at: usize,
-) -> Option<Put>
+) -> Option<usize>
     requires here { at < length text.old }
     requires plain { ArePlain lookup.now }
     requires sight { let it = setting_of pass.now in
         sight.now ≡ sight_of_input it.gdef lookup.now (how_of it.lookup) 0 }
-    ensures come { let s = setting_of pass.now in
+    ensures { let s = setting_of pass.now in
         let gs = tried s lookup.now text.old at in
-        IsCome (came_in s lookup.now gs at lookups.old) gs lookups.old (text_of result text.new)
-        lookups.new (outcome_of result) }
-    ensures few { IfSome result (λ put. put.len ≤ length text.old) }
+        IsCome (came_in s lookup.now gs at lookups.old) gs lookups.old text.new lookups.new
+        (outcome_of result) }
 {
     flag_tried(pass, lookup.bytes(), text, at);
-    let seen = pass.lookup.sight_from(sight, &text[at]);
+    let seen = pass.lookup.sight_from(sight, text.at(at));
     put_among(pass, &seen, lookup, text, lookups, at)
 }
 
-// What a lookup does at a place that it may begin at; the next place, and how many glyphs there are.
+// What a lookup does at a place that it may begin at; the next place.
 #[inline]
 #[tactic(auto, unfolding(crate::specs::Along::lookup_stepped))]
 fn step(
     pass: &Pass<'_>,
     sight: &Sight,
     lookup: &LookupTable<'_>,
-    text: &mut [hb_glyph_info_t],
+    text: &mut GlyphText,
     lookups: &mut LookupRecord,
     at: usize,
-) -> Put
+) -> usize
     requires here { at < length text.old }
     requires plain { ArePlain lookup.now }
     requires sight { let it = setting_of pass.now in
         sight.now ≡ sight_of_input it.gdef lookup.now (how_of it.lookup) 0 }
-    ensures text { lookup_stepped (setting_of pass.now) lookup.now text.old at lookups.old
-        ≡ record { text = take result.len text.new; next = result.next; lookups = lookups.new } }
-    ensures few { result.len ≤ length text.old }
+    ensures { lookup_stepped (setting_of pass.now) lookup.now text.old at lookups.old
+        ≡ record { text = text.new; next = result; lookups = lookups.new } }
 {
-    let next = Put {
-        next: at + 1,
-        len: text.len(),
-    };
-    if !pass.lookup.sees_in(pass.classes.gdef, sight, &text[at]) {
-        return next;
+    if !pass.lookup.sees_in(pass.classes.gdef, sight, text.at(at)) {
+        return at + 1;
     }
     match put_at(pass, sight, lookup, text, lookups, at) {
-        Some(put) => put,
-        None => next,
+        Some(next) => next,
+        None => at + 1,
     }
 }
 
-// Applies a lookup by its table along a text from a place on. Returns how many glyphs are left, at the
-// front.
+// Applies a lookup by its table along a text from a place on.
 #[inline]
 fn put_along(
     pass: &Pass<'_>,
     lookup: &LookupTable<'_>,
-    text: &mut [hb_glyph_info_t],
+    text: &mut GlyphText,
     lookups: &mut LookupRecord,
     first: usize,
-) -> usize
+)
     requires { ArePlain lookup.now }
-    ensures text { applied_from (setting_of pass.now) lookup.now first text.old lookups.old
-        ≡ record { text = take result text.new; lookups = lookups.new } }
-    ensures few { result ≤ length text.old }
+    ensures { applied_from (setting_of pass.now) lookup.now first text.old lookups.old
+        ≡ record { text = text.new; lookups = lookups.new } }
 {
     let sight = pass.lookup.sight(pass.classes.gdef, lookup.bytes());
-    let mut len = text.len();
-    let (mut at, mut steps) = (first, len.saturating_sub(first));
+    let (mut at, mut steps) = (first, text.len().saturating_sub(first));
     while steps > 0 {
-        let place = next_place(&pass.lookup, lookup, &text[..len], at);
-        if place >= len {
-            return len;
+        let place = next_place(&pass.lookup, lookup, &text.view(), at);
+        if place >= text.len() {
+            return;
         }
         let passed = place - at;
         if passed >= steps {
-            return len;
+            return;
         }
-        let put = step(pass, &sight, lookup, &mut text[..len], lookups, place);
-        at = put.next;
-        len = put.len;
+        at = step(pass, &sight, lookup, text, lookups, place);
         steps -= passed + 1;
     }
-    len
 }
 
-// A lookup by its table along a text from a place on; how many glyphs it leaves, and the record of the
-// text's lookups.
+// A lookup by its table along a text from a place on, and the record of the text's lookups.
 #[derive(Drop)]
 struct Putting<'a> {
     pass: &'a Pass<'a>,
     lookup: &'a LookupTable<'a>,
     first: usize,
     lookups: LookupRecord,
-    len: usize,
 }
 
-impl<'a> GlyphWalk for Putting<'a> {
-    ghost use Rattle.std.specs.Prelude.{◌≡◌, ◌≤◌, length, take};
+impl<'a> GlyphEditing for Putting<'a> {
+    ghost use Rattle.std.specs.Prelude.{◌≡◌};
     ghost use Rattle.opentype_gsub.specs.PlainLookups.{ArePlain};
     ghost use Rattle.opentype_gsub.specs.Presence.{applied_from};
     ghost use Rattle.opentype_gsub.specs.Setting.{setting_of};
 
-    ghost can_walk = { λ w gs. ArePlain w.lookup.now };
+    ghost can_edit = { λ w gs. ArePlain w.lookup.now };
 
-    ghost walks = { λ v w gs hs. (w.len ≤ length gs)
-        × (applied_from (setting_of v.pass.now) v.lookup.now v.first gs v.lookups
-        ≡ record { text = take w.len hs; lookups = w.lookups }) };
+    ghost edits = { λ v w gs hs. applied_from (setting_of v.pass.now) v.lookup.now v.first gs v.lookups
+        ≡ record { text = hs; lookups = w.lookups } };
 
     #[inline]
-    fn walk(&mut self, glyphs: &mut [hb_glyph_info_t]) {
-        self.len = put_along(
+    fn edit(&mut self, glyphs: Vec<hb_glyph_info_t>) -> Vec<hb_glyph_info_t> {
+        let mut text = GlyphText::new(glyphs);
+        put_along(
             self.pass,
             self.lookup,
-            glyphs,
+            &mut text,
             &mut self.lookups,
             self.first,
         );
+        text.into_list()
     }
 }
 
@@ -265,9 +255,7 @@ pub(crate) fn apply_plain(
         lookup,
         first,
         lookups: buffer.lookup_record(),
-        len: 0,
     };
-    buffer.walk(&mut putting);
-    buffer.truncate(putting.len);
+    buffer.edit_outside(&mut putting);
     buffer.set_lookup_record(putting.lookups);
 }

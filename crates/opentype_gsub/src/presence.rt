@@ -4,6 +4,7 @@ ghost use Rattle.opentype_gsub.specs.Presence.{is_left};
 ghost use Rattle.opentype_layout.specs.Text.{glyph_at};
 
 use crate::pass::LookupUse;
+use opentype_layout::glyph_text::GlyphView;
 use opentype_layout::sight::number;
 use opentype_layout::starts::LookupTable;
 use shapers_buffer::buffer::hb_glyph_info_t;
@@ -43,7 +44,7 @@ pub(crate) fn first_place(
 pub(crate) fn next_place(
     lookup_use: &LookupUse,
     lookup: &LookupTable<'_>,
-    glyphs: &[hb_glyph_info_t],
+    glyphs: &GlyphView<'_>,
     from: usize,
 ) -> usize
     ensures behind { min from (length glyphs.now) ≤ result }

@@ -7,19 +7,19 @@ ghost use Rattle.opentype_gsub.specs.Reversed.{all_looked_back, around_in, is_re
 ghost use Rattle.opentype_gsub.specs.Decided.{covered_in};
 ghost use Rattle.opentype_gsub.specs.Setting.{setting_of};
 
-use crate::apply::number;
 use crate::decided::covered;
 use crate::edits::replace;
-use crate::flagging::flag_stretch;
+use crate::flagging::{flag_joins, flag_stretch};
 use crate::pass::{Pass, Sights};
 use crate::presence::is_passed;
 use opentype_face::bytes::{table_at, u16_at};
 use opentype_face::lookup::{subtable, subtable_count, subtable_type};
-use opentype_layout::looking::{Stretch, count, flag_joins, sweep_back, sweep_behind};
+use opentype_layout::glyph_text::{GlyphText, GlyphView};
+use opentype_layout::looking::{Stretch, count, sweep_back, sweep_behind};
 use opentype_layout::pattern::Pattern;
 use opentype_layout::rules::Rule;
+use opentype_layout::sight::number;
 use opentype_layout::starts::LookupTable;
-use shapers_buffer::buffer::hb_glyph_info_t;
 
 // The glyphs before and behind the one.
 #[tactic(auto, unfolding(crate::specs::Reversed::around_in, opentype_layout::specs::Pattern::fits))]
@@ -67,7 +67,7 @@ fn reversed(
     gdef: &[u8],
     sights: &Sights,
     bytes: &[u8],
-    glyphs: &[hb_glyph_info_t],
+    glyphs: &GlyphView<'_>,
     at: usize,
 ) -> Option<Reversal>
     requires { at < length glyphs.now }
@@ -76,7 +76,7 @@ fn reversed(
     if u16_at(bytes, 0) != 1 {
         return None;
     }
-    let Some(i) = covered(bytes, number(glyphs, at)) else {
+    let Some(i) = covered(bytes, number(glyphs.at(at))) else {
         return None;
     };
     let from = place_of_glyphs(bytes);
@@ -100,7 +100,7 @@ fn look_around(
     gdef: &[u8],
     sights: &Sights,
     bytes: &[u8],
-    glyphs: &[hb_glyph_info_t],
+    glyphs: &GlyphView<'_>,
     at: usize,
 ) -> Stretch
     requires { at < length glyphs.now }
@@ -117,7 +117,7 @@ fn look_around(
         &rule.behind,
         rule.behind_count,
         glyphs,
-        at + 1,
+        glyphs.after(at),
     );
     if behind.found == rule.behind_count {
         return Stretch::none(at);
@@ -143,7 +143,7 @@ fn look(
     sights: &Sights,
     lookup: &[u8],
     i: u16,
-    glyphs: &[hb_glyph_info_t],
+    glyphs: &GlyphView<'_>,
     at: usize,
 ) -> Stretch
     requires { at < length glyphs.now }
@@ -156,7 +156,7 @@ fn look(
     if u16_at(bytes, 0) != 1 {
         return Stretch::none(at);
     }
-    if replaces(bytes, number(glyphs, at)) {
+    if replaces(bytes, number(glyphs.at(at))) {
         look_around(gdef, sights, bytes, glyphs, at)
     } else {
         Stretch::none(at)
@@ -168,7 +168,7 @@ fn look_among(
     gdef: &[u8],
     sights: &Sights,
     lookup: &[u8],
-    glyphs: &[hb_glyph_info_t],
+    glyphs: &GlyphView<'_>,
     at: usize,
 ) -> Stretch
     requires { at < length glyphs.now }
@@ -186,16 +186,17 @@ fn look_among(
 
 // Flags what a lookup looks at that doesn't fit a place, where that is wanted.
 #[tactic(auto, unfolding(crate::specs::Reversed::tried_back))]
-fn flag_tried(pass: &Pass<'_>, lookup: &[u8], glyphs: &mut [hb_glyph_info_t], at: usize)
-    requires { at < length glyphs.old }
-    ensures { glyphs.new ≡ tried_back (setting_of pass.now) lookup.now glyphs.old at }
+fn flag_tried(pass: &Pass<'_>, lookup: &[u8], text: &mut GlyphText, at: usize)
+    requires { at < length text.old }
+    ensures { text.new ≡ tried_back (setting_of pass.now) lookup.now text.old at }
 {
     if !pass.concat {
         return;
     }
-    let sights = pass.lookup.sights(pass.classes.gdef, lookup, &glyphs[at]);
-    let looked = look_among(pass.classes.gdef, &sights, lookup, glyphs, at);
-    flag_joins(glyphs, looked);
+    let gdef = pass.classes.gdef;
+    let sights = pass.lookup.sights(gdef, lookup, text.at(at));
+    let looked = look_among(gdef, &sights, lookup, &text.view(), at);
+    flag_joins(text, looked);
 }
 
 // One glyph for another, by one of a lookup's subtables.
@@ -205,7 +206,7 @@ fn nth(
     sights: &Sights,
     lookup: &[u8],
     i: u16,
-    glyphs: &[hb_glyph_info_t],
+    glyphs: &GlyphView<'_>,
     at: usize,
 ) -> Option<Reversal>
     requires { at < length glyphs.now }
@@ -222,7 +223,7 @@ fn first(
     gdef: &[u8],
     sights: &Sights,
     lookup: &[u8],
-    glyphs: &[hb_glyph_info_t],
+    glyphs: &GlyphView<'_>,
     at: usize,
 ) -> Option<Reversal>
     requires { at < length glyphs.now }
@@ -240,12 +241,12 @@ fn first(
 
 // What a lookup does at a place.
 #[tactic(auto, unfolding(crate::specs::Reversed::lookup_stepped_back))]
-fn step_back(pass: &Pass<'_>, lookup: &LookupTable<'_>, text: &mut Vec<hb_glyph_info_t>, at: usize)
-    requires { at < length text.old.items }
-    ensures value { text.new.items ≡ lookup_stepped_back (setting_of pass.now) lookup.now text.old.items at }
-    ensures length { length text.new.items ≡ length text.old.items }
+fn step_back(pass: &Pass<'_>, lookup: &LookupTable<'_>, text: &mut GlyphText, at: usize)
+    requires { at < length text.old }
+    ensures value { text.new ≡ lookup_stepped_back (setting_of pass.now) lookup.now text.old at }
+    ensures length { length text.new ≡ length text.old }
 {
-    let glyph = text[at];
+    let glyph = *text.at(at);
     if is_passed(&pass.lookup, lookup, &glyph) {
         return;
     }
@@ -255,7 +256,7 @@ fn step_back(pass: &Pass<'_>, lookup: &LookupTable<'_>, text: &mut Vec<hb_glyph_
     }
     let sights = pass.lookup.sights(pass.classes.gdef, bytes, &glyph);
     flag_tried(pass, bytes, text, at);
-    if let Some(it) = first(pass.classes.gdef, &sights, bytes, text, at) {
+    if let Some(it) = first(pass.classes.gdef, &sights, bytes, &text.view(), at) {
         let len = text.len();
         flag_stretch(text, len, it.start, it.stop);
         replace(&pass.classes, text, at, it.glyph, 0);
@@ -263,9 +264,9 @@ fn step_back(pass: &Pass<'_>, lookup: &LookupTable<'_>, text: &mut Vec<hb_glyph_
 }
 
 /// Applies a lookup by its table from the last glyph of a text to its first one.
-pub fn apply_backward(pass: &Pass<'_>, lookup: &LookupTable<'_>, text: &mut Vec<hb_glyph_info_t>)
-    ensures { text.new.items ≡ applied_backward (length text.old.items)
-        (lookup_stepped_back (setting_of pass.now) lookup.now) text.old.items }
+pub fn apply_backward(pass: &Pass<'_>, lookup: &LookupTable<'_>, text: &mut GlyphText)
+    ensures { text.new ≡ applied_backward (length text.old)
+        (lookup_stepped_back (setting_of pass.now) lookup.now) text.old }
 {
     for at in (0..text.len()).rev() {
         step_back(pass, lookup, text, at);

@@ -15,6 +15,7 @@ use crate::presence::first_place;
 use crate::reverse::apply_backward;
 use opentype_face::class_table::ClassTable;
 use opentype_face::lookup::subtable_type;
+use opentype_layout::glyph_text::GlyphText;
 use opentype_layout::looking::wants_concat;
 use opentype_layout::starts::LookupTable;
 use opentype_layout::tables::LayoutTable;
@@ -35,12 +36,12 @@ fn apply_from<'a>(
     pass: &Pass<'a>,
     table: &LookupTable<'a>,
     first: usize,
-    text: &mut Vec<hb_glyph_info_t>,
+    text: &mut GlyphText,
     lookups: &mut LookupRecord,
 ) -> Result<(), ShaperError>
     ensures { OnOk result (
-        applied_from (setting_of pass.now) table.now first text.old.items lookups.old
-        ≡ record { text = text.new.items; lookups = lookups.new }) }
+        applied_from (setting_of pass.now) table.now first text.old lookups.old
+        ≡ record { text = text.new; lookups = lookups.new }) }
 {
     if subtable_type(7, table.bytes(), 0) == 8 {
         apply_backward(pass, table, text);
@@ -64,10 +65,11 @@ fn apply(
         ≡ record { text = text.items; lookups = lookups.new }) }
     ensures same { buffer.new ≡ buffer.old }
 {
-    let mut text = buffer.take_list();
-    text.extend_from_slice(buffer.glyphs())?;
+    let mut glyphs = buffer.take_list();
+    glyphs.extend_from_slice(buffer.glyphs())?;
+    let mut text = GlyphText::new(glyphs);
     apply_from(pass, table, first, &mut text, lookups)?;
-    Ok(text)
+    Ok(text.into_list())
 }
 
 // Puts these glyphs and this record in the place of the buffer's.

@@ -9,15 +9,17 @@ ghost use Rattle.opentype_layout.specs.Looking.{rule_list, unjoined};
 ghost use Rattle.opentype_layout.specs.Text.{glyph_at};
 ghost use Rattle.shapers_buffer.specs.declared.buffer.lookup_record.LookupRecord.{LookupRecord};
 
-use crate::apply::{is_random, number, value};
+use crate::apply::{is_random, value};
 use crate::decided::{alternate, set_of, single};
+use crate::flagging::flag_joins;
 use crate::matching::first_fitting;
 use crate::pass::{Pass, Sights};
 use opentype_face::bytes::u16_at;
 use opentype_face::lookup::{subtable, subtable_count, subtable_type};
-use opentype_layout::looking::{RuleSet, Stretch, context_rules, flag_joins};
+use opentype_layout::glyph_text::{GlyphText, GlyphView};
+use opentype_layout::looking::{RuleSet, Stretch, context_rules};
 use opentype_layout::rules::find_rule;
-use shapers_buffer::buffer::hb_glyph_info_t;
+use opentype_layout::sight::number;
 
 // Whether a subtable of type 4 has a ligature that fits a place.
 #[tactic(auto, unfolding(crate::specs::Applied::ligated_put))]
@@ -25,7 +27,7 @@ fn ligates(
     pass: &Pass<'_>,
     sights: &Sights,
     bytes: &[u8],
-    glyphs: &[hb_glyph_info_t],
+    glyphs: &GlyphView<'_>,
     at: usize,
 ) -> bool
     requires { at < length glyphs.now }
@@ -33,7 +35,7 @@ fn ligates(
         (r : LookupRecord) → result
         ≡ is_some (ligated_put s.gdef s.level sights.now.input bytes.now glyphs.now at r) }
 {
-    match set_of(bytes, number(glyphs, at)) {
+    match set_of(bytes, number(glyphs.at(at))) {
         Some(set) => first_fitting(pass.classes.gdef, &sights.input, set, glyphs, at).is_some(),
         None => false,
     }
@@ -45,21 +47,21 @@ fn alternates(
     pass: &Pass<'_>,
     sights: &Sights,
     bytes: &[u8],
-    glyphs: &[hb_glyph_info_t],
+    glyphs: &GlyphView<'_>,
     at: usize,
 ) -> bool
     requires { at < length glyphs.now }
     ensures { (r : LookupRecord) → result
         ≡ is_some (chosen_put (setting_of pass.now) sights.now.input bytes.now glyphs.now at r) }
 {
-    let glyph = number(glyphs, at);
-    if is_random(pass.lookup.random, &sights.input, &glyphs[at]) {
+    let glyph = number(glyphs.at(at));
+    if is_random(pass.lookup.random, &sights.input, glyphs.at(at)) {
         return match set_of(bytes, glyph) {
             Some(set) => u16_at(set, 0) != 0,
             None => false,
         };
     }
-    alternate(bytes, glyph, value(&sights.input, &glyphs[at])).is_some()
+    alternate(bytes, glyph, value(&sights.input, glyphs.at(at))).is_some()
 }
 
 // Whether a subtable of types 1 to 4 does something at a place.
@@ -69,7 +71,7 @@ fn applies(
     sights: &Sights,
     kind: u16,
     bytes: &[u8],
-    glyphs: &[hb_glyph_info_t],
+    glyphs: &GlyphView<'_>,
     at: usize,
 ) -> bool
     requires { at < length glyphs.now }
@@ -78,8 +80,8 @@ fn applies(
         ≡ is_some (one_put s sights.now.input kind bytes.now glyphs.now at r) }
 {
     match kind {
-        1 => single(bytes, number(glyphs, at)).is_some(),
-        2 => set_of(bytes, number(glyphs, at)).is_some(),
+        1 => single(bytes, number(glyphs.at(at))).is_some(),
+        2 => set_of(bytes, number(glyphs.at(at))).is_some(),
         3 => alternates(pass, sights, bytes, glyphs, at),
         4 => ligates(pass, sights, bytes, glyphs, at),
         _ => false,
@@ -93,7 +95,7 @@ fn comes(
     sights: &Sights,
     lookup: &[u8],
     i: u16,
-    glyphs: &[hb_glyph_info_t],
+    glyphs: &GlyphView<'_>,
     at: usize,
 ) -> bool
     requires { at < length glyphs.now }
@@ -143,14 +145,14 @@ fn look_by(
     sights: &Sights,
     lookup: &[u8],
     i: u16,
-    glyphs: &[hb_glyph_info_t],
+    glyphs: &GlyphView<'_>,
     at: usize,
 ) -> Stretch
     requires { at < length glyphs.now }
     ensures { result ≡ subtable_looked (setting_of pass.now) sights.now lookup.now glyphs.now at i }
 {
     let kind = subtable_type(7, lookup, i);
-    match rules(kind, subtable(7, lookup, i), number(glyphs, at)) {
+    match rules(kind, subtable(7, lookup, i), number(glyphs.at(at))) {
         Some(rules) => {
             let (input, context) = (&sights.input, &sights.context);
             rules.look(pass.classes.gdef, input, context, pass.len, glyphs, at)
@@ -164,7 +166,7 @@ fn look_among(
     pass: &Pass<'_>,
     sights: &Sights,
     lookup: &[u8],
-    glyphs: &[hb_glyph_info_t],
+    glyphs: &GlyphView<'_>,
     at: usize,
 ) -> Stretch
     requires { at < length glyphs.now }
@@ -182,28 +184,28 @@ fn look_among(
 
 // Flags what a lookup's rules look at that don't fit a place. (Few callers want that.)
 #[inline(never)]
-fn flag_looked(pass: &Pass<'_>, lookup: &[u8], glyphs: &mut [hb_glyph_info_t], at: usize)
-    requires { at < length glyphs.old }
+fn flag_looked(pass: &Pass<'_>, lookup: &[u8], text: &mut GlyphText, at: usize)
+    requires { at < length text.old }
     ensures { let s = setting_of pass.now in
-        let sights = sights_of s.gdef s.lookup lookup.now (glyph_at glyphs.old at) in
-        glyphs.new ≡ unjoined (lookup_looked s sights lookup.now glyphs.old at) glyphs.old }
+        let sights = sights_of s.gdef s.lookup lookup.now (glyph_at text.old at) in
+        text.new ≡ unjoined (lookup_looked s sights lookup.now text.old at) text.old }
 {
-    let sights = pass.lookup.sights(pass.classes.gdef, lookup, &glyphs[at]);
-    let looked = look_among(pass, &sights, lookup, glyphs, at);
-    flag_joins(glyphs, looked);
+    let sights = pass.lookup.sights(pass.classes.gdef, lookup, text.at(at));
+    let looked = look_among(pass, &sights, lookup, &text.view(), at);
+    flag_joins(text, looked);
 }
 
 /// The same where that is wanted.
 #[inline]
 #[tactic(auto, unfolding(crate::specs::Looked::tried))]
-pub(crate) fn flag_tried(pass: &Pass<'_>, lookup: &[u8], glyphs: &mut [hb_glyph_info_t], at: usize)
-    ensures { glyphs.new ≡ tried (setting_of pass.now) lookup.now glyphs.old at }
+pub(crate) fn flag_tried(pass: &Pass<'_>, lookup: &[u8], text: &mut GlyphText, at: usize)
+    ensures { text.new ≡ tried (setting_of pass.now) lookup.now text.old at }
 {
     if !pass.concat {
         return;
     }
-    if at >= glyphs.len() {
+    if at >= text.len() {
         return;
     }
-    flag_looked(pass, lookup, glyphs, at);
+    flag_looked(pass, lookup, text, at);
 }

@@ -1,10 +1,10 @@
 -- A list with a gap, and edits of it.
 use Rattle.std.proofs.Common.{ℕ, suc, nat_lt, Bool, true, false, refl, if◌then◌else◌, ◌+◌, ◌-◌, ◌<◌, ◌≤◌, ◌≡◌, ◌∙◌, List, [], ◌∷◌, ◌++◌, take, drop, length, set, sym, ap, arith, append_assoc, length-take-le, length-drop}
 use Rattle.std.specs.List.{remove}
-use Rattle.std.proofs.Math.Seq.{drop-append-add, paste, take-add, take-append_seam}
+use Rattle.std.proofs.Math.Seq.{drop-append-add, paste, take-add}
 use Rattle.std.proofs.lemmas.List.{drop-drop, drop-set-add, drop-set-lt, drop_at, length-append, take-append-drop, set-append_left, set-append_right, take-append-le, take-set-le, take-take, take_at, take_more_set}
 use Rattle.std.proofs.Math.Seq.{take-set-lt}
-use Rattle.std.proofs.lemmas.List.Edits.{length-paste, take-paste, drop-paste}
+use Rattle.std.proofs.lemmas.List.Edits.{take-paste, drop-paste}
 use Rattle.shapers_buffer.specs.Clusters.{merge, stretch_of, with_stretch}
 use Rattle.shapers_buffer.specs.Glyphs.{Glyphs}
 use Rattle.shapers_buffer.specs.declared.buffer.level.BufferClusterLevel.{BufferClusterLevel}
@@ -155,10 +155,7 @@ merged_gapped level xs ys zs start end behind order is same =
     let e : start + (end - start) ≡ end = omega arith in
     is ∙ ap (λ k. merge level start k (gapped start behind xs)) e ∙ ap (merge level start end) same
 
--- ---- lists in a Vec
-
-pub take_front : {X : Type 0} (xs ys : List X) (n : ℕ) → length xs ≡ n → take n (xs ++ ys) ≡ xs
-take_front xs ys n e = take_at xs ys n e
+-- ---- how long it is
 
 pub length-gapped : {X : Type 0} (xs : List X) (before behind : ℕ) → before ≤ behind → behind ≤ length xs →
     length (gapped before behind xs) ≡ before + (length xs - behind)

@@ -7,13 +7,13 @@ ghost use Rattle.opentype_layout.specs.Rules.{context_in, first_in, found, kind,
 
 use crate::budget::paid_for;
 use crate::class_refs::ClassRef;
+use crate::glyph_text::GlyphView;
 use crate::rule_heads::PreparedRules;
 use crate::rules::{Matched, Tables, find_rule, place_of_sets, rule_set};
 use crate::sets::place_in_set;
 use crate::sight::{Sight, number};
 use opentype_face::bytes::u16_at;
 use opentype_face::glyph_tables::{PreparedClassDef, PreparedCoverage};
-use shapers_buffer::buffer::hb_glyph_info_t;
 use std::alloc::Global;
 use std::marker::Model;
 
@@ -141,7 +141,7 @@ impl<'a> ContextTable<'a> {
         gdef: &[u8],
         input: &Sight,
         context: &Sight,
-        glyphs: &[hb_glyph_info_t],
+        glyphs: &GlyphView<'_>,
         at: usize,
     ) -> Option<Matched<'_>>
         requires { at < length glyphs.now }
@@ -166,7 +166,7 @@ impl<'a> ContextTable<'a> {
         input: &Sight,
         context: &Sight,
         set: Option<&PreparedCoverage<'_>>,
-        glyphs: &[hb_glyph_info_t],
+        glyphs: &GlyphView<'_>,
         at: usize,
     ) -> Option<Matched<'_>>
         requires inside { at < length glyphs.now }
@@ -175,7 +175,7 @@ impl<'a> ContextTable<'a> {
         ensures { option_map (λ it. found it) result ≡ context_in (self.now.kind == 6) gdef.now
             input.now context.now self.now.bytes glyphs.now at }
     {
-        let (bytes, glyph) = (self.bytes, number(&glyphs[at]));
+        let (bytes, glyph) = (self.bytes, number(glyphs.at(at)));
         match u16_at(bytes, 0) {
             1 => {
                 let place = place_in_set(bytes, 2, set, glyph)?;

@@ -5,18 +5,19 @@ ghost use Rattle.opentype_layout.specs.Ligatures.{base_before, base_seen, input_
 ghost use Rattle.opentype_layout.specs.Pattern.{fits};
 ghost use Rattle.opentype_layout.specs.Text.{glyph_at};
 
+use crate::glyph_text::GlyphView;
 use crate::pattern::Pattern;
 use crate::places::{Places, find_places};
 use crate::sight::{Sight, ignores_glyph};
-use shapers_buffer::buffer::{LigProps, hb_glyph_info_t};
+use shapers_buffer::buffer::LigProps;
 
 // The ligature that the glyph at a place is or belongs to.
 #[inline]
-fn props_at(glyphs: &[hb_glyph_info_t], at: usize) -> LigProps
+fn props_at(glyphs: &GlyphView<'_>, at: usize) -> LigProps
     ensures { result ≡ (glyph_at glyphs.now at).lig_props }
 {
     if at < glyphs.len() {
-        glyphs[at].lig_props
+        glyphs.at(at).lig_props
     } else {
         LigProps::NONE
     }
@@ -52,13 +53,13 @@ fn sees_base(number: u8, props: LigProps) -> Option<bool>
 }
 
 // How many glyphs stand between a mark and its ligature.
-fn find_base(glyphs: &[hb_glyph_info_t], number: u8, at: usize) -> Option<usize>
+fn find_base(glyphs: &GlyphView<'_>, number: u8, at: usize) -> Option<usize>
     requires { at ≤ length glyphs.now }
     ensures value { result ≡ base_before glyphs.now number at }
     ensures within { IfSome result (λ i. i < at) }
 {
     for i in 0..at {
-        let seen = sees_base(number, glyphs[at - 1 - i].lig_props);
+        let seen = sees_base(number, glyphs.at(at - 1 - i).lig_props);
         if let Some(is_found) = seen {
             return if is_found { Some(i) } else { None };
         }
@@ -67,13 +68,7 @@ fn find_base(glyphs: &[hb_glyph_info_t], number: u8, at: usize) -> Option<usize>
 }
 
 // Whether a lookup ignores the ligature of a mark.
-fn sees_through(
-    gdef: &[u8],
-    sight: &Sight,
-    glyphs: &[hb_glyph_info_t],
-    number: u8,
-    at: usize,
-) -> bool
+fn sees_through(gdef: &[u8], sight: &Sight, glyphs: &GlyphView<'_>, number: u8, at: usize) -> bool
     requires { at ≤ length glyphs.now }
     ensures { result ≡ is_seen_through gdef.now sight.now glyphs.now number at }
 {
@@ -81,14 +76,14 @@ fn sees_through(
         return false;
     }
     match find_base(glyphs, number, at) {
-        Some(i) => ignores_glyph(gdef, sight.flag, sight.set, &glyphs[at - 1 - i]),
+        Some(i) => ignores_glyph(gdef, sight.flag, sight.set, glyphs.at(at - 1 - i)),
         None => false,
     }
 }
 
 // Whether a glyph can't be of an input, by the ligatures that both belong to.
 #[tactic(auto, unfolding(crate::specs::Ligatures::is_apart))]
-fn apart(gdef: &[u8], sight: &Sight, glyphs: &[hb_glyph_info_t], at: usize, place: usize) -> bool
+fn apart(gdef: &[u8], sight: &Sight, glyphs: &GlyphView<'_>, at: usize, place: usize) -> bool
     requires { at ≤ length glyphs.now }
     ensures { result ≡ is_apart gdef.now sight.now glyphs.now at place }
 {
@@ -108,7 +103,7 @@ fn apart(gdef: &[u8], sight: &Sight, glyphs: &[hb_glyph_info_t], at: usize, plac
 fn is_any_apart(
     gdef: &[u8],
     sight: &Sight,
-    glyphs: &[hb_glyph_info_t],
+    glyphs: &GlyphView<'_>,
     at: usize,
     places: &[usize],
 ) -> bool
@@ -129,7 +124,7 @@ pub fn find_input(
     sight: &Sight,
     pattern: &Pattern<'_>,
     count: u16,
-    glyphs: &[hb_glyph_info_t],
+    glyphs: &GlyphView<'_>,
     at: usize,
     places: &mut Places,
 ) -> bool
@@ -142,7 +137,8 @@ pub fn find_input(
     ensures value { (if result then Some places.new.items else None)
         ≡ input_in gdef.now sight.now (fits pattern.now) count glyphs.now at }
 {
-    if !find_places(gdef, sight, pattern, count, glyphs, at + 1, places) {
+    let from = glyphs.after(at);
+    if !find_places(gdef, sight, pattern, count, glyphs, from, places) {
         return false;
     }
     !is_any_apart(gdef, sight, glyphs, at, places.as_slice())

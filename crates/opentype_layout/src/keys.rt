@@ -8,6 +8,7 @@ ghost use Rattle.opentype_layout.specs.Rules.{Kind, chained_in, rule_in, test_in
 ghost use Rattle.opentype_layout.specs.Sight.{seen_as};
 
 use crate::class_refs::ClassRef;
+use crate::glyph_text::GlyphView;
 use crate::rule_heads::RuleHead;
 use crate::sight::{Sight, ignores_glyph, number};
 use opentype_face::bytes::u16_at;
@@ -94,13 +95,56 @@ fn key_of(gdef: &[u8], sight: &Sight, glyph: &hb_glyph_info_t) -> Option<Key>
     }
 }
 
-/// What a pattern must look for to find its next glyph from a place on.
-pub fn key_behind(gdef: &[u8], sight: &Sight, glyphs: &[hb_glyph_info_t], from: usize) -> Key
+// What a pattern must look for to find its next glyph from a place on, where a search has passed over
+// the glyphs before it. (Apart from the first glyph, so that the loop costs nothing where there is no
+// such glyph.)
+#[inline(never)]
+fn key_further(gdef: &[u8], sight: &Sight, glyphs: &GlyphView<'_>, from: usize) -> Key
     ensures { (test : ℕ → ℕ → Bool) (k : ℕ) → bars result (test k) ≡ true →
         next_in gdef.now sight.now test glyphs.now k from ≡ None }
 {
-    for i in from..glyphs.len() {
-        let key = key_of(gdef, sight, &glyphs[i]);
+    let mut i = from;
+    while let Some(glyph) = glyphs.get(i) {
+        let key = key_of(gdef, sight, glyph);
+        if let Some(key) = key {
+            return key;
+        }
+        i += 1;
+    }
+    Key::Nothing
+}
+
+/// What a pattern must look for to find its next glyph from a place on.
+pub fn key_behind(gdef: &[u8], sight: &Sight, glyphs: &GlyphView<'_>, from: usize) -> Key
+    ensures { (test : ℕ → ℕ → Bool) (k : ℕ) → bars result (test k) ≡ true →
+        next_in gdef.now sight.now test glyphs.now k from ≡ None }
+{
+    let Some(glyph) = glyphs.get(from) else {
+        return Key::Nothing;
+    };
+    let key = key_of(gdef, sight, glyph);
+    if let Some(key) = key {
+        return key;
+    }
+    key_further(gdef, sight, glyphs, from + 1)
+}
+
+// What a pattern must look for to find the nearest glyph before a place, where a search has passed
+// over so many nearer ones.
+#[inline(never)]
+fn key_further_before(
+    gdef: &[u8],
+    sight: &Sight,
+    glyphs: &GlyphView<'_>,
+    at: usize,
+    from: usize,
+) -> Key
+    requires { at ≤ length glyphs.now }
+    ensures { (test : ℕ → ℕ → Bool) (k : ℕ) → bars result (test k) ≡ true →
+        previous_in gdef.now sight.now test glyphs.now at k from ≡ None }
+{
+    for i in from..at {
+        let key = key_of(gdef, sight, glyphs.at(at - 1 - i));
         if let Some(key) = key {
             return key;
         }
@@ -109,18 +153,19 @@ pub fn key_behind(gdef: &[u8], sight: &Sight, glyphs: &[hb_glyph_info_t], from: 
 }
 
 /// What a pattern must look for to find the nearest glyph before a place.
-pub(crate) fn key_before(gdef: &[u8], sight: &Sight, glyphs: &[hb_glyph_info_t], at: usize) -> Key
+pub(crate) fn key_before(gdef: &[u8], sight: &Sight, glyphs: &GlyphView<'_>, at: usize) -> Key
     requires { at ≤ length glyphs.now }
     ensures { (test : ℕ → ℕ → Bool) (k : ℕ) → bars result (test k) ≡ true →
         previous_in gdef.now sight.now test glyphs.now at k 0 ≡ None }
 {
-    for i in 0..at {
-        let key = key_of(gdef, sight, &glyphs[at - 1 - i]);
-        if let Some(key) = key {
-            return key;
-        }
+    if at == 0 {
+        return Key::Nothing;
     }
-    Key::Nothing
+    let key = key_of(gdef, sight, glyphs.at(at - 1));
+    if let Some(key) = key {
+        return key;
+    }
+    key_further_before(gdef, sight, glyphs, at, 1)
 }
 
 /// What the lists of a rule must begin with, so that it may fit a place.

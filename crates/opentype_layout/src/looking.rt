@@ -4,11 +4,11 @@ ghost use Rattle.std.specs.Option.{option_map};
 ghost use Rattle.shapers_buffer.specs.Buffer.{flags_concat, has_flag};
 ghost use Rattle.opentype_layout.specs.Pattern.{fits, seen_by};
 ghost use Rattle.opentype_layout.specs.Rules.{first_at, set_in, sought};
-ghost use Rattle.opentype_layout.specs.Text.{glyph_at};
 ghost use Rattle.opentype_layout.specs.Sight.{is_passed};
 ghost use Rattle.opentype_layout.specs.Looking.{around_looked, context_rules, counted, is_short, spanned, ligature_sought, nothing, rule_list, rule_looked, set_looked, stop_before, stop_in, swept_before, swept_behind, unjoined};
 ghost use Rattle.opentype_layout.specs.Ligatures.{input_in};
 
+use crate::glyph_text::GlyphView;
 use crate::input::find_input;
 use crate::pattern::Pattern;
 use crate::places::Places;
@@ -56,13 +56,10 @@ fn passes(
     sight: &Sight,
     pattern: &Pattern<'_>,
     k: u16,
-    glyphs: &[hb_glyph_info_t],
-    i: usize,
+    glyph: &hb_glyph_info_t,
 ) -> bool
-    requires { i < length glyphs.now }
-    ensures { result ≡ is_passed (seen_by gdef.now sight.now (fits pattern.now) k (glyph_at glyphs.now i)) }
+    ensures { result ≡ is_passed (seen_by gdef.now sight.now (fits pattern.now) k glyph.now) }
 {
-    let glyph = &glyphs[i];
     sight
         .sees(gdef, pattern.fits(k, number(glyph)), glyph)
         .is_none()
@@ -74,17 +71,19 @@ fn stop_behind(
     sight: &Sight,
     pattern: &Pattern<'_>,
     k: u16,
-    glyphs: &[hb_glyph_info_t],
+    glyphs: &GlyphView<'_>,
     from: usize,
 ) -> usize
     ensures { result ≡ stop_in gdef.now sight.now (fits pattern.now) glyphs.now k from }
 {
-    for i in from..glyphs.len() {
-        if !passes(gdef, sight, pattern, k, glyphs, i) {
+    let mut i = from;
+    while let Some(glyph) = glyphs.get(i) {
+        if !passes(gdef, sight, pattern, k, glyph) {
             return i + 1;
         }
+        i += 1;
     }
-    from.max(glyphs.len())
+    i
 }
 
 // The same backwards from a place, by how many glyphs stand between.
@@ -93,7 +92,7 @@ fn stop_back(
     sight: &Sight,
     pattern: &Pattern<'_>,
     k: u16,
-    glyphs: &[hb_glyph_info_t],
+    glyphs: &GlyphView<'_>,
     at: usize,
     from: usize,
 ) -> usize
@@ -101,7 +100,7 @@ fn stop_back(
     ensures { result ≡ stop_before gdef.now sight.now (fits pattern.now) glyphs.now at k from }
 {
     for i in from..at {
-        if !passes(gdef, sight, pattern, k, glyphs, at - 1 - i) {
+        if !passes(gdef, sight, pattern, k, glyphs.at(at - 1 - i)) {
             return i + 1;
         }
     }
@@ -114,7 +113,7 @@ pub fn sweep_behind(
     sight: &Sight,
     pattern: &Pattern<'_>,
     count: u16,
-    glyphs: &[hb_glyph_info_t],
+    glyphs: &GlyphView<'_>,
     from: usize,
 ) -> Sweep
     ensures value { result ≡ swept_behind gdef.now sight.now (fits pattern.now) count glyphs.now from }
@@ -126,7 +125,7 @@ pub fn sweep_behind(
             let to = stop_behind(gdef, sight, pattern, found, glyphs, to);
             return Sweep { to, found };
         };
-        to = i + 1;
+        to = glyphs.after(i);
     }
     Sweep { to, found: count }
 }
@@ -137,7 +136,7 @@ pub fn sweep_back(
     sight: &Sight,
     pattern: &Pattern<'_>,
     count: u16,
-    glyphs: &[hb_glyph_info_t],
+    glyphs: &GlyphView<'_>,
     at: usize,
 ) -> Sweep
     requires { at ≤ length glyphs.now }
@@ -217,7 +216,7 @@ fn look_around(
     gdef: &[u8],
     context: &Sight,
     old_len: usize,
-    glyphs: &[hb_glyph_info_t],
+    glyphs: &GlyphView<'_>,
     at: usize,
     rule: &Rule<'_>,
     end: usize,
@@ -245,7 +244,7 @@ fn look(
     sight: &Sight,
     context: &Sight,
     old_len: usize,
-    glyphs: &[hb_glyph_info_t],
+    glyphs: &GlyphView<'_>,
     at: usize,
     rule: &Rule<'_>,
 ) -> Stretch
@@ -261,7 +260,7 @@ fn look(
         &rule.input,
         rule.input_count - 1,
         glyphs,
-        at + 1,
+        glyphs.after(at),
     );
     if !is_one_input(gdef, sight, rule, input.found, glyphs, at) {
         return Stretch::none(at);
@@ -278,7 +277,7 @@ fn is_one_input(
     sight: &Sight,
     rule: &Rule<'_>,
     count: u16,
-    glyphs: &[hb_glyph_info_t],
+    glyphs: &GlyphView<'_>,
     at: usize,
 ) -> bool
     requires inside { at < length glyphs.now }
@@ -322,7 +321,7 @@ impl<'a> RuleSet<'a> {
         sight: &Sight,
         context: &Sight,
         old_len: usize,
-        glyphs: &[hb_glyph_info_t],
+        glyphs: &GlyphView<'_>,
         at: usize,
     ) -> Stretch
         requires { at < length glyphs.now }

@@ -2,10 +2,10 @@
 ghost use Rattle.std.specs.Prelude.{◌≡◌, ◌<◌, ◌≤◌, ℕ, [], true, length, None, Some, slice_index, if◌then◌else◌};
 ghost use Rattle.opentype_layout.specs.Pattern.{fits, next_in, places_from};
 
+use crate::glyph_text::GlyphView;
 use crate::pattern::Pattern;
 use crate::sight::Sight;
 use arrayvec::ArrayVec;
-use shapers_buffer::buffer::hb_glyph_info_t;
 
 /// How many places a rule has at most behind its first one.
 pub const MOST: usize = 63;
@@ -22,7 +22,7 @@ pub fn find_places(
     sight: &Sight,
     pattern: &Pattern<'_>,
     count: u16,
-    glyphs: &[hb_glyph_info_t],
+    glyphs: &GlyphView<'_>,
     from: usize,
     places: &mut Places,
 ) -> bool
@@ -41,7 +41,7 @@ pub fn find_places(
             return false;
         };
         places.push(place);
-        from = place + 1;
+        from = glyphs.after(place);
     }
     true
 }

@@ -8,6 +8,7 @@ ghost use Rattle.opentype_layout.specs.Looking.{nth_part};
 ghost use Rattle.opentype_layout.specs.Rules.{around, chained_in, context_in, end_in, first_in, found, found_at, kind, kind_in, reach_before, reach_behind, rule_in, set_in, sets_at, shift_in, sought, start_at, test_in, unchained_in};
 
 use crate::class_refs::ClassRef;
+use crate::glyph_text::GlyphView;
 use crate::input::find_input;
 use crate::keys::{Key, Keys, key_before, key_behind};
 use crate::pattern::Pattern;
@@ -17,7 +18,6 @@ use crate::sets::{place_in_set, place_of_first};
 use crate::sight::{Sight, number};
 use opentype_face::bytes::{table_at, u16_at};
 use opentype_face::glyph_tables::PreparedCoverage;
-use shapers_buffer::buffer::hb_glyph_info_t;
 
 /// What a rule looks for, and the records of the lookups that it applies.
 #[derive(Clone, Copy, Debug)]
@@ -79,7 +79,7 @@ fn look_back(
     sight: &Sight,
     pattern: &Pattern<'_>,
     count: u16,
-    glyphs: &[hb_glyph_info_t],
+    glyphs: &GlyphView<'_>,
     at: usize,
 ) -> Option<usize>
     requires { at ≤ length glyphs.now }
@@ -104,7 +104,7 @@ fn look_ahead(
     sight: &Sight,
     pattern: &Pattern<'_>,
     count: u16,
-    glyphs: &[hb_glyph_info_t],
+    glyphs: &GlyphView<'_>,
     from: usize,
 ) -> Option<usize>
     ensures { result ≡ reach_behind gdef.now sight.now (fits pattern.now) count glyphs.now from }
@@ -113,7 +113,7 @@ fn look_ahead(
     for k in 0..count {
         let found = pattern.next(gdef, sight, k, glyphs, from);
         if let Some(i) = found {
-            from = i + 1;
+            from = glyphs.after(i);
         } else {
             return None;
         }
@@ -141,7 +141,7 @@ impl<'a> Rule<'a> {
         &self,
         gdef: &[u8],
         context: &Sight,
-        glyphs: &[hb_glyph_info_t],
+        glyphs: &GlyphView<'_>,
         at: usize,
         behind: &[usize],
     ) -> Option<Matched<'a>>
@@ -174,7 +174,7 @@ impl<'a> Rule<'a> {
         gdef: &[u8],
         input: &Sight,
         context: &Sight,
-        glyphs: &[hb_glyph_info_t],
+        glyphs: &GlyphView<'_>,
         at: usize,
     ) -> Option<Matched<'a>>
         requires { at < length glyphs.now }
@@ -219,7 +219,7 @@ fn before_key(
     of: &ClassRef<'_>,
     gdef: &[u8],
     sight: &Sight,
-    glyphs: &[hb_glyph_info_t],
+    glyphs: &GlyphView<'_>,
     at: usize,
 ) -> Key
     requires { at ≤ length glyphs.now }
@@ -241,7 +241,7 @@ fn behind_key(
     of: &ClassRef<'_>,
     gdef: &[u8],
     sight: &Sight,
-    glyphs: &[hb_glyph_info_t],
+    glyphs: &GlyphView<'_>,
     from: usize,
 ) -> Key
     ensures { (numbers : List ℕ) → bars result (begins_with numbers) ≡ true →
@@ -376,7 +376,7 @@ impl<'a> Tables<'a> {
         gdef: &[u8],
         input: &Sight,
         context: &Sight,
-        glyphs: &[hb_glyph_info_t],
+        glyphs: &GlyphView<'_>,
         at: usize,
     ) -> Keys
         requires { at < length glyphs.now }
@@ -400,7 +400,7 @@ impl<'a> Tables<'a> {
                 gdef,
                 input,
                 glyphs,
-                at + 1,
+                glyphs.after(at),
             ),
             behind: behind_key(
                 asked.behind,
@@ -440,7 +440,7 @@ impl<'a> Tables<'a> {
         input: &Sight,
         context: &Sight,
         bytes: &[u8],
-        glyphs: &[hb_glyph_info_t],
+        glyphs: &GlyphView<'_>,
         at: usize,
     ) -> bool
         requires { at < length glyphs.now }
@@ -458,7 +458,7 @@ impl<'a> Tables<'a> {
         let input_count = u16_at(bytes, input_at);
         if input_count != 1 {
             return input_count > 1
-                && key_behind(gdef, input, glyphs, at + 1).bars_set(set_at(
+                && key_behind(gdef, input, glyphs, glyphs.after(at)).bars_set(set_at(
                     self.input.bytes,
                     bytes,
                     input_at + 4,
@@ -514,7 +514,7 @@ impl<'a> Tables<'a> {
         context: &Sight,
         set: &'a [u8],
         prepared: Option<&PreparedRules<'_>>,
-        glyphs: &[hb_glyph_info_t],
+        glyphs: &GlyphView<'_>,
         at: usize,
     ) -> Option<Matched<'a>>
         requires inside { at < length glyphs.now }
@@ -594,7 +594,7 @@ pub fn find_rule<'a>(
     context: &Sight,
     bytes: &'a [u8],
     set: Option<&PreparedCoverage<'_>>,
-    glyphs: &[hb_glyph_info_t],
+    glyphs: &GlyphView<'_>,
     at: usize,
 ) -> Option<Matched<'a>>
     requires inside { at < length glyphs.now }
@@ -613,11 +613,11 @@ pub fn find_rule<'a>(
             return None;
         }
         let first = place_of_first(chained, bytes);
-        place_in_set(bytes, first, set, number(&glyphs[at]))?;
+        place_in_set(bytes, first, set, number(glyphs.at(at)))?;
         let rule = Tables::of_sets(chained, bytes).rule(bytes);
         return rule.fit(gdef, input, context, glyphs, at);
     }
-    let glyph = number(&glyphs[at]);
+    let glyph = number(glyphs.at(at));
     let place = place_in_set(bytes, 2, set, glyph)?;
     let tables = Tables::of(chained, bytes);
     let rules = match format {

@@ -10,6 +10,7 @@ ghost use Rattle.opentype_layout.specs.SubstitutionTables.{AreSubtables, nth_sub
 ghost use Rattle.opentype_layout.specs.Starts.{AreHeads, AreOthers, AreOutside, ArePassed, IsStarts, NoneStarts};
 
 use crate::bits::first_bit;
+use crate::glyph_text::GlyphView;
 use crate::grid::Grid;
 use crate::heads::{headed_place, heads_of, masked_place};
 use crate::lookup_rows::mark_column;
@@ -517,10 +518,10 @@ impl<'a> LookupTable<'a> {
         }
     }
 
-    /// The next place of a text, from one on, that is to be tried; a lookup with this mask begins
-    /// at none before it. A table without bits isn't searched.
+    /// The next place of a list of glyphs, from one on, that is to be tried; a lookup with this mask
+    /// begins at none before it. A table without bits isn't searched.
     #[inline]
-    pub fn next_place(
+    pub fn next_place_in(
         &self,
         of_gpos: bool,
         mask: u32,
@@ -535,5 +536,23 @@ impl<'a> LookupTable<'a> {
             Some(starts) => starts.next_place(of_gpos, mask, glyphs, from),
             None => masked_place(mask, glyphs, from),
         }
+    }
+
+    /// The next place of a text, from one on, that is to be tried; a lookup with this mask begins at
+    /// none before it. (It runs along one part of the text after the other, since a glyph of a list is
+    /// reached faster than one of a text.)
+    #[inline]
+    pub fn next_place(&self, of_gpos: bool, mask: u32, glyphs: &GlyphView<'_>, from: usize) -> usize
+        ensures behind { min from (length glyphs.now) ≤ result }
+        ensures within { result ≤ length glyphs.now }
+        ensures passed { ArePassed of_gpos self.now mask glyphs.now from result }
+    {
+        let (before, behind) = glyphs.parts();
+        let place = self.next_place_in(of_gpos, mask, before, from);
+        if place < before.len() {
+            return place;
+        }
+        let from = from.saturating_sub(before.len());
+        before.len() + self.next_place_in(of_gpos, mask, behind, from)
     }
 }

@@ -19,11 +19,11 @@ returns-then-place-glyphs c =
     let next = left_next _ _ _ _ _ _ _ _ c.sights-sights.result c.step-at.new.glyphs c.step-at.new.positions c.step-at.result
     c.loop-steps.invariant (omega arith) (cc)
     (c.sights-sights.ensures ∙ ap (sights_in (setting_of c.args.pass.now)) c.bytes.ensures) c.step-at.ensures in
-    let end = left_end _ _ _ _ _ _ _ _ c.next_place-place.result next c.next_place-place.ensures.passed
+    let end = left_end _ _ _ _ _ _ _ _ c.next_place_in-place.result next c.next_place_in-place.ensures.passed
     (elim c.then-place-glyphs.branch [
       | then-place-glyphs-via-then-place-glyphs w ↦ inl (omega (arith, w.if-place-glyphs.true))
       | then-place-glyphs-via-else-place-glyphs+then-place-at w ↦
-          inr (omega (arith, c.next_place-place.ensures.behind, w.if-place-glyphs.false, w.if-place-at.true))
+          inr (omega (arith, c.next_place_in-place.ensures.behind, w.if-place-glyphs.false, w.if-place-at.true))
     ]) in
     record { glyphs = end.glyphs; positions = end.positions }
 
@@ -32,7 +32,7 @@ loop-steps-preserved c =
     let next = left_next _ _ _ _ _ _ _ _ c.sights-sights.result c.step-at.new.glyphs c.step-at.new.positions c.step-at.result
     c.loop-steps.invariant (omega arith) (cc)
     (c.sights-sights.ensures ∙ ap (sights_in (setting_of c.args.pass.now)) c.bytes.ensures) c.step-at.ensures in
-    left_on _ _ _ _ _ _ _ _ c.next_place-place.result next c.next_place-place.ensures.passed
+    left_on _ _ _ _ _ _ _ _ c.next_place_in-place.result next c.next_place_in-place.ensures.passed
     (omega arith) (omega arith) (omega arith)
 
 pub returns : goal.returns

@@ -14,8 +14,8 @@ returns c =
     let gs = c.args.text.now in
     let at = c.args.at in
     let r = c.args.lookups.now in
-    let no : is_random s.lookup.random sight (glyph_at gs at) ≡ false = sym c.is_random.ensures ∙ c.if-is_random.false in
+    let no : is_random s.lookup.random sight (glyph_at gs at) ≡ false = rw c.at.ensures.glyph at (sym c.is_random.ensures ∙ c.if-is_random.false) in
     subst (λ (change : Option PlaceChange). IsChange change gs r c.apply_alternate.new.text r c.apply_alternate.result)
     (sym (not_random s sight bytes gs at r no))
     (subst (λ v. IsChange (alternate_put s.gdef bytes v gs at r) gs r c.apply_alternate.new.text r c.apply_alternate.result)
-    c.value-value.ensures (c.apply_alternate.ensures r))
+    (rw c.at-2.ensures.glyph at c.value-value.ensures) (c.apply_alternate.ensures r))

@@ -1,7 +1,6 @@
-use Rattle.std.proofs.Common.{◌∙◌, arith, refl}
+use Rattle.std.proofs.Common.{◌∙◌, refl}
 use Rattle.opentype_layout.proofs.SubtableStarts.{place_plain}
 use Rattle.opentype_gsub.specs.Applied.{one_put, two_byte_number}
-use Rattle.opentype_gsub.proofs.PlainPuts.{put_alike}
 use Rattle.opentype_gsub.proofs.apply.apply_in_room.Goals as goal
 
 pub apply_single-requires-clause-place : goal.apply_single-requires-clause-place
@@ -21,13 +20,11 @@ apply_ligature-requires-clause-place c = c.requires.place
 
 pub returns-in-1 : goal.returns-in-1
 unfolding one_put
-returns-in-1 c = rw c.in-1.is (put_alike _ _ _ _ _ _ _ _ (c.apply_single.ensures c.args.lookups.now)
-    (let same = c.apply_single.auto.text in omega arith) refl c.put_up_to.ensures)
+returns-in-1 c = rw c.in-1.is (c.apply_single.ensures c.args.lookups.now)
 
 pub returns-in-3 : goal.returns-in-3
 unfolding one_put
-returns-in-3 c = rw c.in-3.is (put_alike _ _ _ _ _ _ _ _ c.apply_chosen.ensures
-    (let same = c.apply_chosen.auto.text in omega arith) refl c.put_up_to-in-3.ensures)
+returns-in-3 c = rw c.in-3.is c.apply_chosen.ensures
 
 pub returns-in-4 : goal.returns-in-4
 unfolding one_put

@@ -8,16 +8,17 @@ loop-steps-init c = walked_start _ _ _ _ _
 
 pub returns-then-place-len : goal.returns-then-place-len
 returns-then-place-len c = walked_out _ _ _ _ _ _ _ _ _ c.next_place-place.result c.loop-steps.invariant
-    (still_left (setting_of c.args.pass.now) _ _ _ _ _ (rw c.deref.ensures.value at c.next_place-place.ensures.left)) (inl (omega arith))
+    (still_left (setting_of c.args.pass.now) _ _ _ _ _ (rw c.view.ensures at c.next_place-place.ensures.left)) (inl (omega arith))
 
 pub returns-then-passed-steps : goal.returns-then-passed-steps
 returns-then-passed-steps c = walked_out _ _ _ _ _ _ _ _ _ c.next_place-place.result c.loop-steps.invariant
-    (still_left (setting_of c.args.pass.now) _ _ _ _ _ (rw c.deref.ensures.value at c.next_place-place.ensures.left)) (inr (omega arith))
+    (still_left (setting_of c.args.pass.now) _ _ _ _ _ (rw c.view.ensures at c.next_place-place.ensures.left)) (inr (omega arith))
 
 pub loop-steps-preserved : goal.loop-steps-preserved
 loop-steps-preserved c = walked_next _ _ _ _ _ _ _ _ _ c.next_place-place.result _ _ _ c.loop-steps.invariant
-    (still_left (setting_of c.args.pass.now) _ _ _ _ _ (rw c.deref.ensures.value at c.next_place-place.ensures.left))
-    (omega arith) (omega arith) (omega arith) c.in_ok-at.ensures
+    (still_left (setting_of c.args.pass.now) _ _ _ _ _ (rw c.view.ensures at c.next_place-place.ensures.left))
+    (let behind = rw c.view.ensures at c.next_place-place.ensures.behind in omega arith) (omega arith) (omega arith)
+    c.in_ok-at.ensures
 
 pub returns : goal.returns
 returns c = walked_all _ _ _ _ _ _ _ _ _ c.loop-steps.invariant (omega arith)

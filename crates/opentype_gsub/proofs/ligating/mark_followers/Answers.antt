@@ -1,4 +1,5 @@
 use Rattle.std.proofs.Common.{arith, rules}
+use Rattle.opentype_gsub.proofs.AsLong.{set_as_long}
 use Rattle.opentype_gsub.proofs.Marking.{following_end, following_next, following_out, following_start}
 use Rattle.opentype_gsub.proofs.ligating.mark_followers.Goals as goal
 
@@ -11,7 +12,7 @@ returns-then-not-follows c = following_end _ _ _ _ _ _ c.loop-i.invariant (searc
 pub loop-i-preserved : goal.loop-i-preserved
 loop-i-preserved c = following_next _ _ _ _ _ _ _ c.loop-i.invariant
     (let same = c.loop-i.invariant.same in let lt = c.loop-i-test.true in omega arith) (search rules)
-    c.mark_at.ensures c.mark_at.auto.text
+    c.mark_at.ensures (set_as_long _ _ _ _ c.mark_at.ensures)
 
 pub returns : goal.returns
 returns c = following_out _ _ _ _ _ _ c.loop-i.invariant

@@ -7,7 +7,7 @@ use Rattle.opentype_gsub.proofs.machine.come_among.Given as goal
 
 abbrev pub invariant-loop-from : goal.invariant-loop-from
 invariant-loop-from l = IsComing (nth_came (setting_of l.pass) l.sights l.lookup l.at) (u16_in l.lookup 4) l.from
-    l.fn.text.items l.fn.lookups l.text.items l.lookups
+    l.fn.text l.fn.lookups l.text l.lookups
 
 abbrev pub decreases-loop-from : goal.decreases-loop-from
 decreases-loop-from l = l.count - l.from

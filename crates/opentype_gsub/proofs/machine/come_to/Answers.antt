@@ -7,4 +7,4 @@ returns-then-at-len c = (came_out _ _ _ _ _ (omega arith), (refl, refl))
 
 pub returns : goal.returns
 returns c = came_by _ _ _ _ _ _ _ c.seen_from-seen.result _ (omega arith)
-    (rw c.deref.ensures.value at (c.seen_from-seen.ensures c.args.lookup.now c.requires)) c.come_among.ensures
+    (c.seen_from-seen.ensures c.args.lookup.now c.requires) c.come_among.ensures

@@ -6,5 +6,5 @@ use Rattle.std.proofs.Common.{[], ◌∷◌}
 use Rattle.opentype_gsub.proofs.machine.run.Given as goal
 
 abbrev pub invariant-loop-done : goal.invariant-loop-done
-invariant-loop-done l = IsRunning (machine_stepped (setting_of l.pass)) l.operations l.fn.text.items l.fn.lookups (frame_of l.fn.rule ∷ [])
-    l.done l.text.items l.lookups (frame_of l.rule ∷ [])
+invariant-loop-done l = IsRunning (machine_stepped (setting_of l.pass)) l.operations l.fn.text l.fn.lookups (frame_of l.fn.rule ∷ [])
+    l.done l.text l.lookups (frame_of l.rule ∷ [])

@@ -6,7 +6,7 @@ pub loop-found-init : goal.loop-found-init
 loop-found-init c = swept_start _ _ _ _
 
 pub loop-found-preserved : goal.loop-found-preserved
-loop-found-preserved c = swept_found _ _ _ _ _ _ _ c.loop-found.invariant c.loop-found-test.true (cc)
+loop-found-preserved c = rw c.after-to.ensures (swept_found _ _ _ _ _ _ _ c.loop-found.invariant c.loop-found-test.true (cc))
 
 pub returns-clause-value : goal.returns-clause-value
 returns-clause-value c = sym (swept_all _ _ _ _ _ _ c.loop-found.invariant c.loop-found-test.false)

@@ -17,7 +17,7 @@ pub push-requires : goal.push-requires
 push-requires c = let a = c.loop-k.invariant.number in (lit< tt, omega arith)
 
 pub loop-k-preserved : goal.loop-k-preserved
-loop-k-preserved c = rw c.push.ensures.items (placed_next _ _ _ _ _ _ _ _ c.loop-k.invariant
+loop-k-preserved c = rw (c.push.ensures.items, c.after-from.ensures) (placed_next _ _ _ _ _ _ _ _ c.loop-k.invariant
     c.loop-k-test.true (sym c.next-found.ensures.value ∙ c.in-Some.is) (rw c.in-Some.is at c.next-found.ensures.within))
 
 pub returns : goal.returns

@@ -12,8 +12,8 @@ returns-in_default c = reached_none _ _ _ _ _ c.loop-k.invariant c.loop-k-test.t
     (sym c.next-found.ensures.value ∙ c.in_default.is)
 
 pub loop-k-preserved : goal.loop-k-preserved
-loop-k-preserved c = reached_next _ _ _ _ _ _ c.loop-k.invariant c.loop-k-test.true
-    (sym c.next-found.ensures.value ∙ c.in-Some.is)
+loop-k-preserved c = rw c.after-from.ensures (reached_next _ _ _ _ _ _ c.loop-k.invariant c.loop-k-test.true
+    (sym c.next-found.ensures.value ∙ c.in-Some.is))
 
 pub returns : goal.returns
 unfolding reach_behind reach_from

@@ -57,7 +57,7 @@ fn apply_along(
     while steps > 0 {
         at = step(pass, &sights, lookup, glyphs, positions, at);
         steps -= 1;
-        let place = lookup.next_place(true, mask, glyphs, at);
+        let place = lookup.next_place_in(true, mask, glyphs, at);
         if place >= glyphs.len() || place - at >= steps {
             return;
         }

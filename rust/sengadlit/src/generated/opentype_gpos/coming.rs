@@ -6,6 +6,7 @@ use crate::generated::opentype_face::lookup::subtable_count;
 use crate::generated::opentype_gpos::moves::{Move, PairPlace, move_by, pair_by_table};
 use crate::generated::opentype_gpos::nearby::number;
 use crate::generated::opentype_gpos::pass::{Pass, Sights};
+use crate::generated::opentype_layout::glyph_text::GlyphView;
 use crate::generated::opentype_layout::rules::{Matched, find_rule};
 use crate::generated::opentype_layout::starts::LookupTable;
 use crate::generated::shapers_buffer::buffer::GlyphInfo;
@@ -41,7 +42,7 @@ pub(crate) fn come_by<'a>(
             context,
             it.bytes,
             it.first,
-            glyphs,
+            &GlyphView::of(glyphs),
             at,
         ) {
             Some(matched) => Some(Came::Fits(matched)),

@@ -13,6 +13,7 @@ use crate::generated::opentype_gpos::nearby::{
     previous_glyph,
 };
 use crate::generated::opentype_gpos::pass::{Pass, Sights};
+use crate::generated::opentype_layout::glyph_text::GlyphView;
 use crate::generated::opentype_layout::looking::{Stretch, context_rules, count, flag_joins};
 use crate::generated::opentype_layout::position_tables::PositionRef;
 use crate::generated::opentype_layout::sight::Sight;
@@ -244,7 +245,10 @@ fn look_by(
     let (input, context) = (&sights.input, &sights.context);
     if it.kind == 7 || it.kind == 8 {
         return match context_rules(it.kind == 8, it.bytes, number(&glyphs[at])) {
-            Some(rules) => rules.look(pass.gdef, input, context, glyphs.len(), glyphs, at),
+            Some(rules) => {
+                let text = GlyphView::of(glyphs);
+                rules.look(pass.gdef, input, context, glyphs.len(), &text, at)
+            }
             None => Stretch::none(at),
         };
     }

@@ -2,8 +2,6 @@
 
 //! What subtables make of a text at a place.
 
-use crate::support::prelude::*;
-
 use crate::generated::opentype_face::bytes::u16_at;
 use crate::generated::opentype_face::class_table::ClassTable;
 use crate::generated::opentype_gsub::decided::{alternate_at, set_by, single_at};
@@ -11,19 +9,17 @@ use crate::generated::opentype_gsub::edits::{count_of, delete, multiply, replace
 use crate::generated::opentype_gsub::ligating::ligate;
 use crate::generated::opentype_gsub::matching::{Fitting, first_fitting};
 use crate::generated::opentype_gsub::pass::Pass;
-use crate::generated::opentype_layout::sight::Sight;
+use crate::generated::opentype_layout::glyph_text::GlyphText;
+use crate::generated::opentype_layout::sight::{Sight, number};
 use crate::generated::opentype_layout::substitution_tables::SubtableAt;
 use crate::generated::shapers_buffer::buffer::{
-    BufferClusterLevel, GlyphInfo, LookupRecord, ShaperError, unsafe_to_break_in,
+    BufferClusterLevel, GlyphInfo, LookupRecord, ShaperError,
 };
 
-/// What was done to a text at a place, in its room.
-#[derive(Clone, Copy, Debug)]
-pub struct Put {
-    /// The place behind what was done.
-    pub next: usize,
-    /// How many glyphs the text has then, at the front.
-    pub len: usize,
+// The place behind so many glyphs of a text. (The text's length fits a `usize`, and so does this.)
+#[inline]
+fn behind_sequence(text: &GlyphText, at: usize, count: u16) -> usize {
+    at.saturating_add(usize::from(count)).min(text.len())
 }
 
 /// Puts the glyphs of a sequence in for one, and returns the place behind them. More than the text
@@ -38,9 +34,9 @@ pub struct Put {
 /// # Contract
 ///
 /// ```text
-/// requires here { at < length text.old.items }
-/// ensures { IfOk result (λ next. sequence_put (setting_of pass.now) at text.old.items lookups.old
-///     sequence.now ≡ record { text = text.new.items; next = next; lookups = lookups.new }) }
+/// requires here { at < length text.old }
+/// ensures { IfOk result (λ next. sequence_put (setting_of pass.now) at text.old lookups.old
+///     sequence.now ≡ record { text = text.new; next = next; lookups = lookups.new }) }
 /// ```
 ///
 /// - `sequence_put`: `crates/opentype_gsub/specs/Applied.antt`
@@ -51,7 +47,7 @@ pub struct Put {
 /// [`Memory`]: crate::ShaperError::Memory
 pub fn put_sequence(
     pass: &Pass<'_>,
-    text: &mut Vec<GlyphInfo>,
+    text: &mut GlyphText,
     lookups: &mut LookupRecord,
     at: usize,
     sequence: &[u8],
@@ -70,23 +66,17 @@ pub fn put_sequence(
         return Ok(at + 1);
     }
     multiply(&pass.classes, text, at, sequence)?;
-    Ok(at.saturating_add(usize::from(count)))
-}
-
-// The number of a glyph of the text, of two bytes.
-#[inline]
-pub(crate) fn number(text: &[GlyphInfo], at: usize) -> u16 {
-    (text[at].glyph_id % 65536) as u16
+    Ok(behind_sequence(text, at, count))
 }
 
 fn apply_single(
     classes: &ClassTable<'_>,
     bytes: &[u8],
     place: Option<u32>,
-    text: &mut [GlyphInfo],
+    text: &mut GlyphText,
     at: usize,
 ) -> Option<usize> {
-    match single_at(bytes, number(text, at), place) {
+    match single_at(bytes, number(text.at(at)), place) {
         Some(to) => {
             replace(classes, text, at, to, 0);
             Some(at + 1)
@@ -100,7 +90,7 @@ fn apply_alternate(
     bytes: &[u8],
     place: Option<u32>,
     value: u32,
-    text: &mut [GlyphInfo],
+    text: &mut GlyphText,
     at: usize,
 ) -> Option<usize> {
     match alternate_at(value, set_by(bytes, place)) {
@@ -116,7 +106,7 @@ fn apply_multiple(
     pass: &Pass<'_>,
     bytes: &[u8],
     place: Option<u32>,
-    text: &mut Vec<GlyphInfo>,
+    text: &mut GlyphText,
     lookups: &mut LookupRecord,
     at: usize,
 ) -> Result<Option<usize>, ShaperError> {
@@ -133,36 +123,32 @@ fn apply_ligature(
     sight: &Sight,
     bytes: &[u8],
     place: Option<u32>,
-    text: &mut [GlyphInfo],
+    text: &mut GlyphText,
     at: usize,
-) -> Option<Put> {
+) -> Option<usize> {
     let set = set_by(bytes, place)?;
-    match first_fitting(classes.gdef, sight, set, text, at) {
+    match first_fitting(classes.gdef, sight, set, &text.view(), at) {
         Some(fitting) => Some(put_ligature(classes, level, text, at, &fitting)),
         None => None,
     }
 }
 
-// Puts a ligature in.
+// Puts a ligature in. Returns the place behind it.
 fn put_ligature(
     classes: &ClassTable<'_>,
     level: BufferClusterLevel,
-    text: &mut [GlyphInfo],
+    text: &mut GlyphText,
     at: usize,
     fitting: &Fitting,
-) -> Put {
+) -> usize {
     let places = fitting.places.as_slice();
     if places.is_empty() {
-        let len = text.len();
         replace(classes, text, at, fitting.glyph, 0);
-        return Put { next: at + 1, len };
+        return at + 1;
     }
     let last = places[places.len() - 1];
-    let len = ligate(classes, level, text, at, places, fitting.glyph);
-    Put {
-        next: (last + 1).saturating_sub(places.len()),
-        len,
-    }
+    ligate(classes, level, text, at, places, fitting.glyph);
+    last.saturating_sub(places.len() - 1)
 }
 
 // The value of a feature at a glyph.
@@ -192,7 +178,7 @@ fn apply_random(
     classes: &ClassTable<'_>,
     bytes: &[u8],
     place: Option<u32>,
-    text: &mut [GlyphInfo],
+    text: &mut GlyphText,
     lookups: &mut LookupRecord,
     at: usize,
 ) -> Option<usize> {
@@ -204,7 +190,7 @@ fn apply_random(
     lookups.random_state = next_state(lookups.random_state);
     let chosen = lookups.random_state % count + 1;
     let len = text.len();
-    unsafe_to_break_in(text, 0, len);
+    text.unsafe_to_break(0, len);
     replace(classes, text, at, u16_at(set, chosen as usize * 2), 0);
     Some(at + 1)
 }
@@ -215,28 +201,19 @@ fn apply_chosen(
     sight: &Sight,
     bytes: &[u8],
     place: Option<u32>,
-    text: &mut [GlyphInfo],
+    text: &mut GlyphText,
     lookups: &mut LookupRecord,
     at: usize,
 ) -> Option<usize> {
-    if is_random(pass.lookup.random, sight, &text[at]) {
+    if is_random(pass.lookup.random, sight, text.at(at)) {
         return apply_random(&pass.classes, bytes, place, text, lookups, at);
     }
-    let value = value(sight, &text[at]);
+    let value = value(sight, text.at(at));
     apply_alternate(&pass.classes, bytes, place, value, text, at)
 }
 
-// Where nothing is put in for several glyphs, their number stays.
-#[inline]
-fn put_up_to(next: Option<usize>, len: usize) -> Option<Put> {
-    match next {
-        Some(next) => Some(Put { next, len }),
-        None => None,
-    }
-}
-
 /// What a subtable that adds no glyph makes of a text at a place, by the place of the glyph there in
-/// the set that it begins with, if it fits. The glyphs stay in their room.
+/// the set that it begins with: the place behind what it did, if it fits. It takes no memory.
 ///
 /// <details><summary>Contract</summary>
 ///
@@ -249,12 +226,12 @@ fn put_up_to(next: Option<usize>, len: usize) -> Option<Put> {
 ///   kind = subtable.now.kind;
 ///   bytes = subtable.now.bytes.now;
 /// }) (two_byte_number text.old at) }
-/// ensures { IsPut (one_put (setting_of pass.now) sight.now subtable.now.kind
+/// ensures { IsChange (one_put (setting_of pass.now) sight.now subtable.now.kind
 ///     subtable.now.bytes.now text.old at lookups.old) text.old lookups.old text.new lookups.new
 ///     result }
 /// ```
 ///
-/// - `IsPut`, `one_put`, `two_byte_number`: `crates/opentype_gsub/specs/Applied.antt`
+/// - `IsChange`, `one_put`, `two_byte_number`: `crates/opentype_gsub/specs/Applied.antt`
 /// - `setting_of`: `crates/opentype_gsub/specs/Setting.antt`
 /// - `first_place`: `crates/opentype_layout/specs/SubstitutionTables.antt`
 ///
@@ -264,17 +241,14 @@ pub fn apply_in_room(
     pass: &Pass<'_>,
     sight: &Sight,
     subtable: &SubtableAt<'_>,
-    text: &mut [GlyphInfo],
+    text: &mut GlyphText,
     lookups: &mut LookupRecord,
     at: usize,
-) -> Option<Put> {
-    let (bytes, place, len) = (subtable.bytes, subtable.place, text.len());
+) -> Option<usize> {
+    let (bytes, place) = (subtable.bytes, subtable.place);
     match subtable.kind {
-        1 => put_up_to(apply_single(&pass.classes, bytes, place, text, at), len),
-        3 => put_up_to(
-            apply_chosen(pass, sight, bytes, place, text, lookups, at),
-            len,
-        ),
+        1 => apply_single(&pass.classes, bytes, place, text, at),
+        3 => apply_chosen(pass, sight, bytes, place, text, lookups, at),
         4 => apply_ligature(&pass.classes, pass.level, sight, bytes, place, text, at),
         _ => None,
     }
@@ -292,14 +266,14 @@ pub fn apply_in_room(
 /// # Contract
 ///
 /// ```text
-/// requires here { at < length text.old.items }
+/// requires here { at < length text.old }
 /// requires place { subtable.now.place ≡ first_place (record {
 ///   kind = subtable.now.kind;
 ///   bytes = subtable.now.bytes.now;
-/// }) (two_byte_number text.old.items at) }
+/// }) (two_byte_number text.old at) }
 /// ensures { IfOk result (λ next. IsChange (one_put (setting_of pass.now) sight.now
-///     subtable.now.kind subtable.now.bytes.now text.old.items at lookups.old) text.old.items
-///     lookups.old text.new.items lookups.new next) }
+///     subtable.now.kind subtable.now.bytes.now text.old at lookups.old) text.old
+///     lookups.old text.new lookups.new next) }
 /// ```
 ///
 /// - `IsChange`, `one_put`, `two_byte_number`: `crates/opentype_gsub/specs/Applied.antt`
@@ -314,18 +288,12 @@ pub fn apply_one(
     pass: &Pass<'_>,
     sight: &Sight,
     subtable: &SubtableAt<'_>,
-    text: &mut Vec<GlyphInfo>,
+    text: &mut GlyphText,
     lookups: &mut LookupRecord,
     at: usize,
 ) -> Result<Option<usize>, ShaperError> {
     if subtable.kind == 2 {
         return apply_multiple(pass, subtable.bytes, subtable.place, text, lookups, at);
     }
-    match apply_in_room(pass, sight, subtable, text, lookups, at) {
-        Some(put) => {
-            text.truncate(put.len);
-            Ok(Some(put.next))
-        }
-        None => Ok(None),
-    }
+    Ok(apply_in_room(pass, sight, subtable, text, lookups, at))
 }

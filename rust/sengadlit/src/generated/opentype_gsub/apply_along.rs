@@ -2,13 +2,12 @@
 
 //! A lookup along a text.
 
-use crate::support::prelude::*;
-
 use crate::generated::opentype_gsub::machine::apply_nested;
 use crate::generated::opentype_gsub::pass::{Pass, Sights};
 use crate::generated::opentype_gsub::presence::next_place;
+use crate::generated::opentype_layout::glyph_text::GlyphText;
 use crate::generated::opentype_layout::starts::LookupTable;
-use crate::generated::shapers_buffer::buffer::{GlyphInfo, LookupRecord, ShaperError};
+use crate::generated::shapers_buffer::buffer::{LookupRecord, ShaperError};
 
 // What a lookup does at a place; the next place.
 #[inline]
@@ -16,11 +15,11 @@ fn step<'a>(
     pass: &Pass<'a>,
     sights: &Sights,
     lookup: &LookupTable<'a>,
-    text: &mut Vec<GlyphInfo>,
+    text: &mut GlyphText,
     lookups: &mut LookupRecord,
     at: usize,
 ) -> Result<usize, ShaperError> {
-    if !pass.lookup.sees_by(pass.classes.gdef, sights, &text[at]) {
+    if !pass.lookup.sees_by(pass.classes.gdef, sights, text.at(at)) {
         return Ok(at + 1);
     }
     match apply_nested(pass, sights, lookup, text, lookups, at)? {
@@ -42,8 +41,8 @@ fn step<'a>(
 ///
 /// ```text
 /// ensures { OnOk result (lookup_applied steps (lookup_stepped (setting_of pass.now) lookup.now)
-///     text.old.items first lookups.old
-///     ≡ record { text = text.new.items; lookups = lookups.new }) }
+///     text.old first lookups.old
+///     ≡ record { text = text.new; lookups = lookups.new }) }
 /// ```
 ///
 /// - `lookup_applied`, `lookup_stepped`: `crates/opentype_gsub/specs/Along.antt`
@@ -56,7 +55,7 @@ fn step<'a>(
 pub fn apply_along<'a>(
     pass: &Pass<'a>,
     lookup: &LookupTable<'a>,
-    text: &mut Vec<GlyphInfo>,
+    text: &mut GlyphText,
     lookups: &mut LookupRecord,
     first: usize,
     steps: usize,
@@ -66,7 +65,7 @@ pub fn apply_along<'a>(
         .sights_within(pass.classes.gdef, lookup.bytes(), 0);
     let (mut at, mut steps) = (first, steps);
     while steps > 0 {
-        let place = next_place(&pass.lookup, lookup, text, at);
+        let place = next_place(&pass.lookup, lookup, &text.view(), at);
         if place >= text.len() {
             return Ok(());
         }

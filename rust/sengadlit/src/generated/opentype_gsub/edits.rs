@@ -2,12 +2,11 @@
 
 //! What lookups do to glyphs.
 
-use crate::support::prelude::*;
-
 use crate::generated::opentype_face::bytes::u16_at;
 use crate::generated::opentype_face::class_table::ClassTable;
+use crate::generated::opentype_layout::glyph_text::GlyphText;
 use crate::generated::shapers_buffer::buffer::{
-    BufferClusterLevel, GlyphInfo, GlyphProps, LigProps, ShaperError, merge_clusters_in,
+    BufferClusterLevel, GlyphInfo, GlyphProps, LigProps, ShaperError,
 };
 
 // The properties of a glyph that is put in.
@@ -50,17 +49,18 @@ pub fn replacement(classes: &ClassTable<'_>, to: u16, guess: u16, glyph: GlyphIn
 ///
 /// ```text
 /// requires { at < length text.old }
-/// ensures { let gdef = classes.now.gdef.now in text.new ≡
+/// ensures text { let gdef = classes.now.gdef.now in text.new ≡
 ///     slice_set text.old at (replaced gdef to guess (glyph_at text.old at)) }
+/// ensures next { at + 1 < 2 ^ 64 }
 /// ```
 ///
 /// - `replaced`: `crates/opentype_gsub/specs/Edits.antt`
 /// - `glyph_at`: `crates/opentype_layout/specs/Text.antt`
 ///
 /// </details>
-pub fn replace(classes: &ClassTable<'_>, text: &mut [GlyphInfo], at: usize, to: u16, guess: u16) {
-    let glyph = text[at];
-    text[at] = replacement(classes, to, guess, glyph);
+pub fn replace(classes: &ClassTable<'_>, text: &mut GlyphText, at: usize, to: u16, guess: u16) {
+    let glyph = *text.at(at);
+    text.set(at, replacement(classes, to, guess, glyph));
 }
 
 // One of a sequence of glyphs that come in for one.
@@ -110,8 +110,8 @@ pub fn count_of(sequence: &[u8]) -> u16 {
 /// # Contract
 ///
 /// ```text
-/// requires { at < length text.old.items }
-/// ensures { OnOk result (text.new.items ≡ multiplied classes.now.gdef.now sequence.now at text.old.items) }
+/// requires { at < length text.old }
+/// ensures { OnOk result (text.new ≡ multiplied classes.now.gdef.now sequence.now at text.old) }
 /// ```
 ///
 /// - `multiplied`: `crates/opentype_gsub/specs/Edits.antt`
@@ -121,33 +121,33 @@ pub fn count_of(sequence: &[u8]) -> u16 {
 /// [`Memory`]: crate::ShaperError::Memory
 pub fn multiply(
     classes: &ClassTable<'_>,
-    text: &mut Vec<GlyphInfo>,
+    text: &mut GlyphText,
     at: usize,
     sequence: &[u8],
 ) -> Result<(), ShaperError> {
-    let glyph = text.remove(at);
+    let glyph = *text.at(at);
+    text.remove(at);
     let count = count_of(sequence);
     for k in (0..count).rev() {
-        let table_at = glyph_of_sequence(classes, sequence, glyph, k);
-        text.insert(at, table_at).map_err(|_| ShaperError::Memory)?;
+        text.insert(at, glyph_of_sequence(classes, sequence, glyph, k))?;
     }
     Ok(())
 }
 
 // Hands the cluster of a glyph that goes on to a neighbour.
-fn hand_on(level: BufferClusterLevel, text: &mut [GlyphInfo], at: usize) {
-    let here = text[at].cluster;
-    if at + 1 < text.len() && text[at + 1].cluster == here {
+fn hand_on(level: BufferClusterLevel, text: &mut GlyphText, at: usize) {
+    let here = text.at(at).cluster;
+    if at + 1 < text.len() && text.at(at + 1).cluster == here {
         return;
     }
     if at == 0 {
         if at + 1 < text.len() {
-            merge_clusters_in(level, text, at, at + 2);
+            text.merge_clusters(level, at, at + 2);
         }
         return;
     }
-    if here < text[at - 1].cluster {
-        merge_clusters_in(level, text, at - 1, at + 1);
+    if here < text.at(at - 1).cluster {
+        text.merge_clusters(level, at - 1, at + 1);
     }
 }
 
@@ -158,36 +158,33 @@ fn hand_on(level: BufferClusterLevel, text: &mut [GlyphInfo], at: usize) {
 /// # Contract
 ///
 /// ```text
-/// requires { at < length text.old.items }
-/// ensures { text.new.items ≡ remove (handed_on level at text.old.items) at }
+/// requires { at < length text.old }
+/// ensures { text.new ≡ remove (handed_on level at text.old) at }
 /// ```
 ///
 /// - `handed_on`: `crates/opentype_gsub/specs/Edits.antt`
 ///
 /// </details>
-pub fn delete(level: BufferClusterLevel, text: &mut Vec<GlyphInfo>, at: usize) {
+pub fn delete(level: BufferClusterLevel, text: &mut GlyphText, at: usize) {
     hand_on(level, text, at);
     text.remove(at);
 }
 
-// Takes a glyph out. Those behind it move to the front by one place, and the last place is free.
-#[inline]
-fn take_out(text: &mut [GlyphInfo], at: usize) {
-    let end = text.len();
-    text.copy_within(at + 1..end, at);
-}
-
-// Takes glyphs out, the last first. Returns how many are left, at the front.
-pub(crate) fn remove_all(text: &mut [GlyphInfo], places: &[usize]) -> usize {
-    let mut len = text.len();
+// Takes glyphs out, the last first.
+pub(crate) fn remove_all(text: &mut GlyphText, places: &[usize]) {
     for i in (0..places.len()).rev() {
         let place = places[i];
-        if place < len {
-            take_out(&mut text[..len], place);
-            len -= 1;
+        if place < text.len() {
+            text.remove(place);
         }
     }
-    len
+}
+
+// The place behind a glyph. (A text's length fits a `usize`, and so does this.)
+#[inline]
+pub(crate) fn place_behind(text: &GlyphText, at: usize) -> usize {
+    let _len = text.len();
+    at + 1
 }
 
 // The last of a place and those behind it.
@@ -202,13 +199,9 @@ pub(crate) fn last_of(at: usize, places: &[usize]) -> usize {
 
 // Merges the clusters of a stretch by its first place and its last one.
 #[inline]
-pub(crate) fn merge_up_to(
-    level: BufferClusterLevel,
-    text: &mut [GlyphInfo],
-    at: usize,
-    last: usize,
-) {
+pub(crate) fn merge_up_to(level: BufferClusterLevel, text: &mut GlyphText, at: usize, last: usize) {
     if at < last {
-        merge_clusters_in(level, text, at, last + 1);
+        let end = place_behind(text, last);
+        text.merge_clusters(level, at, end);
     }
 }

@@ -3,7 +3,10 @@
 //! Type 4: a ligature in the place of several glyphs, and the marks that belong to it.
 
 use crate::generated::opentype_face::class_table::ClassTable;
-use crate::generated::opentype_gsub::edits::{last_of, merge_up_to, remove_all, replacement};
+use crate::generated::opentype_gsub::edits::{
+    last_of, merge_up_to, place_behind, remove_all, replacement,
+};
+use crate::generated::opentype_layout::glyph_text::GlyphText;
 use crate::generated::shapers_buffer::buffer::{
     BufferClusterLevel, GlyphInfo, GlyphProps, LigProps, UnicodeProps,
 };
@@ -45,36 +48,36 @@ impl Counted {
 
 // Whether the glyph at a place is a mark.
 #[inline]
-fn is_mark(glyphs: &[GlyphInfo], place: usize) -> bool {
+fn is_mark(glyphs: &GlyphText, place: usize) -> bool {
     if place < glyphs.len() {
-        glyphs[place].glyph_props.0 & 8 == 8
+        glyphs.at(place).glyph_props.0 & 8 == 8
     } else {
         false
     }
 }
 
 #[inline]
-fn is_base(glyphs: &[GlyphInfo], place: usize) -> bool {
+fn is_base(glyphs: &GlyphText, place: usize) -> bool {
     if place < glyphs.len() {
-        glyphs[place].glyph_props.0 & 2 == 2
+        glyphs.at(place).glyph_props.0 & 2 == 2
     } else {
         false
     }
 }
 
 // Whether all glyphs at some places are marks.
-fn all_marks(glyphs: &[GlyphInfo], places: &[usize]) -> bool {
+fn all_marks(glyphs: &GlyphText, places: &[usize]) -> bool {
     places.iter().all(|place| is_mark(glyphs, *place))
 }
 
-fn of_marks(glyphs: &[GlyphInfo], at: usize, places: &[usize]) -> bool {
+fn of_marks(glyphs: &GlyphText, at: usize, places: &[usize]) -> bool {
     if !is_mark(glyphs, at) {
         return false;
     }
     all_marks(glyphs, places)
 }
 
-fn of_base(glyphs: &[GlyphInfo], at: usize, places: &[usize]) -> bool {
+fn of_base(glyphs: &GlyphText, at: usize, places: &[usize]) -> bool {
     if !is_base(glyphs, at) {
         return false;
     }
@@ -82,9 +85,9 @@ fn of_base(glyphs: &[GlyphInfo], at: usize, places: &[usize]) -> bool {
 }
 
 // The number of the nearest ligature before a place, or 0.
-fn nearest_number(glyphs: &[GlyphInfo], at: usize) -> u8 {
+fn nearest_number(glyphs: &GlyphText, at: usize) -> u8 {
     for i in (0..at).rev() {
-        let number = glyphs[i].lig_props.0 / 32;
+        let number = glyphs.at(i).lig_props.0 / 32;
         if number != 0 {
             return number;
         }
@@ -93,7 +96,7 @@ fn nearest_number(glyphs: &[GlyphInfo], at: usize) -> u8 {
 }
 
 // The number of a ligature; 0 where marks don't belong to it.
-fn number(glyphs: &[GlyphInfo], at: usize, places: &[usize]) -> u8 {
+fn number(glyphs: &GlyphText, at: usize, places: &[usize]) -> u8 {
     if of_marks(glyphs, at, places) || of_base(glyphs, at, places) {
         return 0;
     }
@@ -116,14 +119,14 @@ fn mark(number: u8, counted: Counted, glyph: GlyphInfo) -> GlyphInfo {
 }
 
 // The glyph at a place becomes a mark of a ligature with a number.
-fn mark_at(text: &mut [GlyphInfo], i: usize, number: u8, counted: Counted) {
-    let glyph = text[i];
-    text[i] = mark(number, counted, glyph);
+fn mark_at(text: &mut GlyphText, i: usize, number: u8, counted: Counted) {
+    let glyph = *text.at(i);
+    text.set(i, mark(number, counted, glyph));
 }
 
 // With the glyph at a place.
-fn with_glyph(counted: Counted, glyphs: &[GlyphInfo], i: usize) -> Counted {
-    counted.with(&glyphs[i])
+fn with_glyph(counted: Counted, glyphs: &GlyphText, i: usize) -> Counted {
+    counted.with(glyphs.at(i))
 }
 
 // Whether a place is one of the ligature's.
@@ -133,7 +136,7 @@ fn is_among(places: &[usize], i: usize) -> bool {
 
 // The glyph at a place: one of the ligature's, or a mark among them.
 fn mark_one(
-    text: &mut [GlyphInfo],
+    text: &mut GlyphText,
     i: usize,
     places: &[usize],
     number: u8,
@@ -151,15 +154,16 @@ fn mark_one(
 
 // The glyphs between the ligature's, up to its last one.
 fn mark_inside(
-    text: &mut [GlyphInfo],
+    text: &mut GlyphText,
     at: usize,
     last: usize,
     places: &[usize],
     number: u8,
     counted: Counted,
 ) -> Counted {
+    let (first, end) = (place_behind(text, at), place_behind(text, last));
     let mut counted = counted;
-    for i in at + 1..last + 1 {
+    for i in first..end {
         counted = mark_one(text, i, places, number, counted);
     }
     counted
@@ -167,13 +171,13 @@ fn mark_inside(
 
 // Whether the glyph at a place is a mark of the last one's component.
 #[inline]
-fn follows(counted: Counted, glyphs: &[GlyphInfo], i: usize) -> bool {
-    let props = glyphs[i].lig_props;
+fn follows(counted: Counted, glyphs: &GlyphText, i: usize) -> bool {
+    let props = glyphs.at(i).lig_props;
     props.0 / 32 == counted.number && props.component() != 0
 }
 
 // The marks from a place on that were of the last glyph.
-fn mark_followers(text: &mut [GlyphInfo], from: usize, number: u8, counted: Counted) {
+fn mark_followers(text: &mut GlyphText, from: usize, number: u8, counted: Counted) {
     for i in from..text.len() {
         if !follows(counted, text, i) {
             return;
@@ -182,7 +186,7 @@ fn mark_followers(text: &mut [GlyphInfo], from: usize, number: u8, counted: Coun
     }
 }
 
-fn mark_behind(text: &mut [GlyphInfo], of_marks: bool, from: usize, number: u8, counted: Counted) {
+fn mark_behind(text: &mut GlyphText, of_marks: bool, from: usize, number: u8, counted: Counted) {
     if of_marks || counted.number == 0 {
         return;
     }
@@ -226,14 +230,14 @@ fn ligature(
 fn join(
     classes: &ClassTable<'_>,
     level: BufferClusterLevel,
-    text: &mut [GlyphInfo],
+    text: &mut GlyphText,
     at: usize,
     places: &[usize],
     to: u16,
 ) {
     let last = last_of(at, places);
     merge_up_to(level, text, at, last);
-    let first = text[at];
+    let first = *text.at(at);
     let number = number(text, at, places);
     let of_marks = of_marks(text, at, places);
     let none = Counted {
@@ -242,12 +246,12 @@ fn join(
         number: 0,
     };
     let counted = mark_inside(text, at, last, places, number, none.with(&first));
-    mark_behind(text, of_marks, last + 1, number, counted);
-    text[at] = ligature(classes, to, number, counted.all, first);
+    let behind = place_behind(text, last);
+    mark_behind(text, of_marks, behind, number, counted);
+    text.set(at, ligature(classes, to, number, counted.all, first));
 }
 
-/// Puts one glyph in for the one at a place and those at other places behind it. Returns how many
-/// glyphs are left, at the front.
+/// Puts one glyph in for the one at a place and those at other places behind it.
 ///
 /// <details><summary>Contract</summary>
 ///
@@ -256,9 +260,7 @@ fn join(
 /// ```text
 /// requires here { at < length text.old }
 /// requires behind { last_place at places.now < length text.old }
-/// ensures text { take result text.new
-///     ≡ ligated classes.now.gdef.now level at places.now to text.old }
-/// ensures few { result ≤ length text.old }
+/// ensures { text.new ≡ ligated classes.now.gdef.now level at places.now to text.old }
 /// ```
 ///
 /// - `last_place`: `crates/opentype_gsub/specs/Edits.antt`
@@ -268,11 +270,11 @@ fn join(
 pub fn ligate(
     classes: &ClassTable<'_>,
     level: BufferClusterLevel,
-    text: &mut [GlyphInfo],
+    text: &mut GlyphText,
     at: usize,
     places: &[usize],
     to: u16,
-) -> usize {
+) {
     join(classes, level, text, at, places, to);
-    remove_all(text, places)
+    remove_all(text, places);
 }

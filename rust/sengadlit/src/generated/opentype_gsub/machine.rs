@@ -2,19 +2,19 @@
 
 //! Lookups that rules apply, on a stack in the place of a recursion.
 
-use crate::support::prelude::*;
-
 use crate::generated::opentype_face::bytes::u16_at;
 use crate::generated::opentype_face::lookup::subtable_count;
-use crate::generated::opentype_gsub::apply::{apply_one, number};
+use crate::generated::opentype_gsub::apply::apply_one;
 use crate::generated::opentype_gsub::flagging::flag_stretch;
 use crate::generated::opentype_gsub::pass::{Pass, Sights};
 use crate::generated::opentype_gsub::shifting::Rule;
 use crate::generated::opentype_gsub::trying::flag_tried;
+use crate::generated::opentype_layout::glyph_text::{GlyphText, GlyphView};
 use crate::generated::opentype_layout::rules::{Matched, find_rule};
+use crate::generated::opentype_layout::sight::number;
 use crate::generated::opentype_layout::starts::LookupTable;
 use crate::generated::opentype_layout::substitution_tables::SubtableRef;
-use crate::generated::shapers_buffer::buffer::{GlyphInfo, LookupRecord, ShaperError};
+use crate::generated::shapers_buffer::buffer::{LookupRecord, ShaperError};
 use crate::support::arrayvec::ArrayVec;
 use core::mem;
 
@@ -38,7 +38,7 @@ fn begin<'a>(
     pass: &Pass<'_>,
     chained: bool,
     matched: Matched<'a>,
-    text: &mut [GlyphInfo],
+    text: &mut GlyphText,
 ) -> Rule<'a> {
     let len = text.len();
     let old_len = if chained { pass.len } else { len };
@@ -51,7 +51,7 @@ fn rule_of<'a>(
     pass: &Pass<'_>,
     sights: &Sights,
     subtable: &SubtableRef<'a>,
-    glyphs: &[GlyphInfo],
+    glyphs: &GlyphView<'_>,
     at: usize,
 ) -> Option<Matched<'a>> {
     let (gdef, input, context) = (pass.classes.gdef, &sights.input, &sights.context);
@@ -62,32 +62,26 @@ fn rule_of<'a>(
     }
 }
 
-// What one of a lookup's subtables comes to at a place.
+// What one of a lookup's subtables comes to at a place, by the number of the glyph there.
 fn come_by<'a>(
     pass: &Pass<'_>,
     sights: &Sights,
     lookup: &LookupTable<'a>,
     i: u16,
-    text: &mut Vec<GlyphInfo>,
+    glyph: u16,
+    text: &mut GlyphText,
     lookups: &mut LookupRecord,
     at: usize,
 ) -> Result<Outcome<'a>, ShaperError> {
     let subtable = lookup.subtable(i);
     let kind = subtable.kind;
     if kind == 5 || kind == 6 {
-        return match rule_of(pass, sights, &subtable, text, at) {
+        return match rule_of(pass, sights, &subtable, &text.view(), at) {
             Some(matched) => Ok(Outcome::Fits(begin(pass, kind == 6, matched, text))),
             None => Ok(Outcome::Nothing),
         };
     }
-    match apply_one(
-        pass,
-        &sights.input,
-        &subtable.at(number(text, at)),
-        text,
-        lookups,
-        at,
-    )? {
+    match apply_one(pass, &sights.input, &subtable.at(glyph), text, lookups, at)? {
         Some(next) => Ok(Outcome::Done(next)),
         None => Ok(Outcome::Nothing),
     }
@@ -98,17 +92,17 @@ fn come_among<'a>(
     pass: &Pass<'_>,
     sights: &Sights,
     lookup: &LookupTable<'a>,
-    text: &mut Vec<GlyphInfo>,
+    text: &mut GlyphText,
     lookups: &mut LookupRecord,
     at: usize,
 ) -> Result<Outcome<'a>, ShaperError> {
-    let bytes = lookup.bytes();
+    let (bytes, glyph) = (lookup.bytes(), number(text.at(at)));
     let (count, mut from) = (subtable_count(bytes), 0);
     while from < count {
-        let Some(i) = lookup.next_start(false, number(text, at), from) else {
+        let Some(i) = lookup.next_start(false, glyph, from) else {
             return Ok(Outcome::Nothing);
         };
-        match come_by(pass, sights, lookup, i, text, lookups, at) {
+        match come_by(pass, sights, lookup, i, glyph, text, lookups, at) {
             Ok(Outcome::Nothing) => from = i + 1,
             Ok(Outcome::Done(next)) => return Ok(Outcome::Done(next)),
             Ok(Outcome::Fits(rule)) => return Ok(Outcome::Fits(rule)),
@@ -120,8 +114,8 @@ fn come_among<'a>(
 
 // What a lookup sees from the glyph at a place on.
 #[inline]
-fn seen_from(pass: &Pass<'_>, sights: &Sights, glyphs: &[GlyphInfo], at: usize) -> Sights {
-    pass.lookup.sights_from(sights, &glyphs[at])
+fn seen_from(pass: &Pass<'_>, sights: &Sights, text: &GlyphText, at: usize) -> Sights {
+    pass.lookup.sights_from(sights, text.at(at))
 }
 
 // What a lookup comes to at a place.
@@ -129,7 +123,7 @@ fn come_to<'a>(
     pass: &Pass<'_>,
     sights: &Sights,
     lookup: &LookupTable<'a>,
-    text: &mut Vec<GlyphInfo>,
+    text: &mut GlyphText,
     lookups: &mut LookupRecord,
     at: usize,
 ) -> Result<Outcome<'a>, ShaperError> {
@@ -145,7 +139,7 @@ fn try_at<'a>(
     pass: &Pass<'_>,
     sights: &Sights,
     lookup: &LookupTable<'a>,
-    text: &mut Vec<GlyphInfo>,
+    text: &mut GlyphText,
     lookups: &mut LookupRecord,
     at: usize,
 ) -> Result<Outcome<'a>, ShaperError> {
@@ -156,7 +150,7 @@ fn try_at<'a>(
 // Applies the next lookup of a rule; the rule that fits there, if one does.
 fn call<'a>(
     pass: &Pass<'a>,
-    text: &mut Vec<GlyphInfo>,
+    text: &mut GlyphText,
     lookups: &mut LookupRecord,
     rule: &mut Rule<'a>,
 ) -> Result<Option<Rule<'a>>, ShaperError> {
@@ -213,7 +207,7 @@ fn go_deeper<'a>(called: Rule<'a>, rule: &mut Rule<'a>, callers: &mut Callers<'a
 // One turn of the machine; where it ends, the place behind what was done.
 fn step<'a>(
     pass: &Pass<'a>,
-    text: &mut Vec<GlyphInfo>,
+    text: &mut GlyphText,
     lookups: &mut LookupRecord,
     rule: &mut Rule<'a>,
     callers: &mut Callers<'a>,
@@ -232,7 +226,7 @@ fn step<'a>(
 #[inline(never)]
 fn run_called<'a>(
     pass: &Pass<'a>,
-    text: &mut Vec<GlyphInfo>,
+    text: &mut GlyphText,
     lookups: &mut LookupRecord,
     caller: Rule<'a>,
     called: Rule<'a>,
@@ -258,7 +252,7 @@ fn run_called<'a>(
 #[inline(never)]
 fn run<'a>(
     pass: &Pass<'a>,
-    text: &mut Vec<GlyphInfo>,
+    text: &mut GlyphText,
     lookups: &mut LookupRecord,
     rule: Rule<'a>,
     operations: usize,
@@ -297,8 +291,8 @@ fn run<'a>(
 /// requires { let it = setting_of pass.now in
 ///     sights.now ≡ sights_within it.gdef it.lookup lookup.now 0 }
 /// ensures { IfOk result (λ end.
-///     nested (setting_of pass.now) lookup.now text.old.items at lookups.old
-///     ≡ record { text = text.new.items; end = end; lookups = lookups.new }) }
+///     nested (setting_of pass.now) lookup.now text.old at lookups.old
+///     ≡ record { text = text.new; end = end; lookups = lookups.new }) }
 /// ```
 ///
 /// - `nested`: `crates/opentype_gsub/specs/Machine.antt`
@@ -312,7 +306,7 @@ pub fn apply_nested<'a>(
     pass: &Pass<'a>,
     sights: &Sights,
     lookup: &LookupTable<'a>,
-    text: &mut Vec<GlyphInfo>,
+    text: &mut GlyphText,
     lookups: &mut LookupRecord,
     at: usize,
 ) -> Result<Option<usize>, ShaperError> {

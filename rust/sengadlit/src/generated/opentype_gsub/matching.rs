@@ -3,12 +3,12 @@
 //! Where the places of a rule find their glyphs, and which ligature fits.
 
 use crate::generated::opentype_face::bytes::{table_at, u16_at};
+use crate::generated::opentype_layout::glyph_text::GlyphView;
 use crate::generated::opentype_layout::input::find_input;
 use crate::generated::opentype_layout::keys::{Key, key_behind};
 use crate::generated::opentype_layout::pattern::Pattern;
 use crate::generated::opentype_layout::places::Places;
 use crate::generated::opentype_layout::sight::Sight;
-use crate::generated::shapers_buffer::buffer::GlyphInfo;
 
 /// A ligature that fits, and where its glyphs behind the first one are.
 #[derive(Debug)]
@@ -19,20 +19,24 @@ pub struct Fitting {
     pub places: Places,
 }
 
-// A ligature, if it fits a place with a key for the rest of its glyphs.
+// Whether a key bars a ligature, which stands so many bytes behind the start of its set: the count of
+// its glyphs is above 1, and the key isn't the second one. Most ligatures of a set end here.
+#[inline]
+fn is_barred(key: &Key, set: &[u8], offset: usize) -> bool {
+    let (count, second) = (u16_at(set, offset + 2), u16_at(set, offset + 4));
+    count > 1 && key.bars(second)
+}
+
+// A ligature, if it fits a place.
 fn fit_ligature(
     gdef: &[u8],
     sight: &Sight,
-    key: &Key,
     ligature: &[u8],
-    glyphs: &[GlyphInfo],
+    glyphs: &GlyphView<'_>,
     at: usize,
 ) -> Option<Fitting> {
     let count = u16_at(ligature, 2);
     if count == 0 || count > 64 {
-        return None;
-    }
-    if count > 1 && key.bars(u16_at(ligature, 4)) {
         return None;
     }
     let pattern = Pattern::Glyphs(table_at(ligature, 4));
@@ -69,13 +73,16 @@ pub fn first_fitting(
     gdef: &[u8],
     sight: &Sight,
     set: &[u8],
-    glyphs: &[GlyphInfo],
+    glyphs: &GlyphView<'_>,
     at: usize,
 ) -> Option<Fitting> {
-    let key = key_behind(gdef, sight, glyphs, at + 1);
+    let key = key_behind(gdef, sight, glyphs, glyphs.after(at));
     for i in 0..u16_at(set, 0) {
-        let ligature = table_at(set, usize::from(u16_at(set, 2 + usize::from(i) * 2)));
-        let found = fit_ligature(gdef, sight, &key, ligature, glyphs, at);
+        let offset = usize::from(u16_at(set, 2 + usize::from(i) * 2));
+        if is_barred(&key, set, offset) {
+            continue;
+        }
+        let found = fit_ligature(gdef, sight, table_at(set, offset), glyphs, at);
         if found.is_some() {
             return found;
         }

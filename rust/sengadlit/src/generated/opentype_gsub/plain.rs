@@ -1,15 +1,18 @@
 // Generated from crates/opentype_gsub/src/plain.rt by rust/erase; edit the source.
 
-//! Lookups that add no glyphs and have no rules, in the room of a text.
+//! Lookups that add no glyphs and have no rules, in the buffer's own list.
+
+use crate::support::prelude::*;
 
 use crate::generated::opentype_face::lookup::subtable_count;
-use crate::generated::opentype_gsub::apply::{Put, apply_in_room, number};
+use crate::generated::opentype_gsub::apply::apply_in_room;
 use crate::generated::opentype_gsub::pass::Pass;
 use crate::generated::opentype_gsub::presence::next_place;
 use crate::generated::opentype_gsub::trying::flag_tried;
-use crate::generated::opentype_layout::sight::Sight;
+use crate::generated::opentype_layout::glyph_text::GlyphText;
+use crate::generated::opentype_layout::sight::{Sight, number};
 use crate::generated::opentype_layout::starts::LookupTable;
-use crate::generated::shapers_buffer::buffer::{Buffer, GlyphInfo, GlyphWalk, LookupRecord};
+use crate::generated::shapers_buffer::buffer::{Buffer, GlyphEditing, GlyphInfo, LookupRecord};
 
 // Whether a subtable of a type puts single glyphs in, and has no rules.
 #[inline]
@@ -29,18 +32,19 @@ pub(crate) fn are_plain(lookup: &LookupTable<'_>) -> bool {
     count > 0
 }
 
-// What one of a lookup's subtables does at a place.
+// What one of a lookup's subtables does at a place, by the number of the glyph there.
 #[inline]
 fn put_by(
     pass: &Pass<'_>,
     sight: &Sight,
     lookup: &LookupTable<'_>,
     i: u16,
-    text: &mut [GlyphInfo],
+    glyph: u16,
+    text: &mut GlyphText,
     lookups: &mut LookupRecord,
     at: usize,
-) -> Option<Put> {
-    let subtable = lookup.subtable(i).at(number(text, at));
+) -> Option<usize> {
+    let subtable = lookup.subtable(i).at(glyph);
     apply_in_room(pass, sight, &subtable, text, lookups, at)
 }
 
@@ -60,17 +64,18 @@ fn put_among(
     pass: &Pass<'_>,
     sight: &Sight,
     lookup: &LookupTable<'_>,
-    text: &mut [GlyphInfo],
+    text: &mut GlyphText,
     lookups: &mut LookupRecord,
     at: usize,
-) -> Option<Put> {
+) -> Option<usize> {
+    let glyph = number(text.at(at));
     let (count, mut from) = (subtable_count(lookup.bytes()), 0);
     while from < count {
-        let Some(i) = next_tried(lookup, count, number(text, at), from) else {
+        let Some(i) = next_tried(lookup, count, glyph, from) else {
             return None;
         };
-        match put_by(pass, sight, lookup, i, text, lookups, at) {
-            Some(put) => return Some(put),
+        match put_by(pass, sight, lookup, i, glyph, text, lookups, at) {
+            Some(next) => return Some(next),
             None => from = i + 1,
         }
     }
@@ -83,88 +88,79 @@ fn put_at(
     pass: &Pass<'_>,
     sight: &Sight,
     lookup: &LookupTable<'_>,
-    text: &mut [GlyphInfo],
+    text: &mut GlyphText,
     lookups: &mut LookupRecord,
     at: usize,
-) -> Option<Put> {
+) -> Option<usize> {
     flag_tried(pass, lookup.bytes(), text, at);
-    let seen = pass.lookup.sight_from(sight, &text[at]);
+    let seen = pass.lookup.sight_from(sight, text.at(at));
     put_among(pass, &seen, lookup, text, lookups, at)
 }
 
-// What a lookup does at a place that it may begin at; the next place, and how many glyphs there are.
+// What a lookup does at a place that it may begin at; the next place.
 #[inline]
 fn step(
     pass: &Pass<'_>,
     sight: &Sight,
     lookup: &LookupTable<'_>,
-    text: &mut [GlyphInfo],
+    text: &mut GlyphText,
     lookups: &mut LookupRecord,
     at: usize,
-) -> Put {
-    let next = Put {
-        next: at + 1,
-        len: text.len(),
-    };
-    if !pass.lookup.sees_in(pass.classes.gdef, sight, &text[at]) {
-        return next;
+) -> usize {
+    if !pass.lookup.sees_in(pass.classes.gdef, sight, text.at(at)) {
+        return at + 1;
     }
     match put_at(pass, sight, lookup, text, lookups, at) {
-        Some(put) => put,
-        None => next,
+        Some(next) => next,
+        None => at + 1,
     }
 }
 
-// Applies a lookup by its table along a text from a place on. Returns how many glyphs are left, at the
-// front.
+// Applies a lookup by its table along a text from a place on.
 #[inline]
 fn put_along(
     pass: &Pass<'_>,
     lookup: &LookupTable<'_>,
-    text: &mut [GlyphInfo],
+    text: &mut GlyphText,
     lookups: &mut LookupRecord,
     first: usize,
-) -> usize {
+) {
     let sight = pass.lookup.sight(pass.classes.gdef, lookup.bytes());
-    let mut len = text.len();
-    let (mut at, mut steps) = (first, len.saturating_sub(first));
+    let (mut at, mut steps) = (first, text.len().saturating_sub(first));
     while steps > 0 {
-        let place = next_place(&pass.lookup, lookup, &text[..len], at);
-        if place >= len {
-            return len;
+        let place = next_place(&pass.lookup, lookup, &text.view(), at);
+        if place >= text.len() {
+            return;
         }
         let passed = place - at;
         if passed >= steps {
-            return len;
+            return;
         }
-        let put = step(pass, &sight, lookup, &mut text[..len], lookups, place);
-        at = put.next;
-        len = put.len;
+        at = step(pass, &sight, lookup, text, lookups, place);
         steps -= passed + 1;
     }
-    len
 }
 
-// A lookup by its table along a text from a place on; how many glyphs it leaves, and the record of the
-// text's lookups.
+// A lookup by its table along a text from a place on, and the record of the text's lookups.
 struct Putting<'a> {
     pass: &'a Pass<'a>,
     lookup: &'a LookupTable<'a>,
     first: usize,
     lookups: LookupRecord,
-    len: usize,
 }
 
-impl<'a> GlyphWalk for Putting<'a> {
+impl<'a> GlyphEditing for Putting<'a> {
     #[inline]
-    fn walk(&mut self, glyphs: &mut [GlyphInfo]) {
-        self.len = put_along(
+    fn edit(&mut self, glyphs: Vec<GlyphInfo>) -> Vec<GlyphInfo> {
+        let mut text = GlyphText::new(glyphs);
+        put_along(
             self.pass,
             self.lookup,
-            glyphs,
+            &mut text,
             &mut self.lookups,
             self.first,
         );
+        text.into_list()
     }
 }
 
@@ -182,9 +178,7 @@ pub(crate) fn apply_plain(
         lookup,
         first,
         lookups: buffer.lookup_record(),
-        len: 0,
     };
-    buffer.walk(&mut putting);
-    buffer.truncate(putting.len);
+    buffer.edit_outside(&mut putting);
     buffer.set_lookup_record(putting.lookups);
 }

@@ -3,6 +3,7 @@
 //! Where a lookup may begin: most lookups have nothing to do in a text.
 
 use crate::generated::opentype_gsub::pass::LookupUse;
+use crate::generated::opentype_layout::glyph_text::GlyphView;
 use crate::generated::opentype_layout::sight::number;
 use crate::generated::opentype_layout::starts::LookupTable;
 use crate::generated::shapers_buffer::buffer::GlyphInfo;
@@ -37,7 +38,7 @@ pub(crate) fn first_place(
 pub(crate) fn next_place(
     lookup_use: &LookupUse,
     lookup: &LookupTable<'_>,
-    glyphs: &[GlyphInfo],
+    glyphs: &GlyphView<'_>,
     from: usize,
 ) -> usize {
     lookup.next_place(false, lookup_use.mask, glyphs, from)

@@ -2,23 +2,19 @@
 
 //! Type 8: one glyph for one by the glyphs around it, from the end of the text to its start.
 
-use crate::support::prelude::*;
-
 use crate::generated::opentype_face::bytes::{table_at, u16_at};
 use crate::generated::opentype_face::lookup::{subtable, subtable_count, subtable_type};
-use crate::generated::opentype_gsub::apply::number;
 use crate::generated::opentype_gsub::decided::covered;
 use crate::generated::opentype_gsub::edits::replace;
-use crate::generated::opentype_gsub::flagging::flag_stretch;
+use crate::generated::opentype_gsub::flagging::{flag_joins, flag_stretch};
 use crate::generated::opentype_gsub::pass::{Pass, Sights};
 use crate::generated::opentype_gsub::presence::is_passed;
-use crate::generated::opentype_layout::looking::{
-    Stretch, count, flag_joins, sweep_back, sweep_behind,
-};
+use crate::generated::opentype_layout::glyph_text::{GlyphText, GlyphView};
+use crate::generated::opentype_layout::looking::{Stretch, count, sweep_back, sweep_behind};
 use crate::generated::opentype_layout::pattern::Pattern;
 use crate::generated::opentype_layout::rules::Rule;
+use crate::generated::opentype_layout::sight::number;
 use crate::generated::opentype_layout::starts::LookupTable;
-use crate::generated::shapers_buffer::buffer::GlyphInfo;
 
 // The glyphs before and behind the one.
 fn around(bytes: &[u8]) -> Rule<'_> {
@@ -58,13 +54,13 @@ fn reversed(
     gdef: &[u8],
     sights: &Sights,
     bytes: &[u8],
-    glyphs: &[GlyphInfo],
+    glyphs: &GlyphView<'_>,
     at: usize,
 ) -> Option<Reversal> {
     if u16_at(bytes, 0) != 1 {
         return None;
     }
-    let Some(i) = covered(bytes, number(glyphs, at)) else {
+    let Some(i) = covered(bytes, number(glyphs.at(at))) else {
         return None;
     };
     let from = place_of_glyphs(bytes);
@@ -87,7 +83,7 @@ fn look_around(
     gdef: &[u8],
     sights: &Sights,
     bytes: &[u8],
-    glyphs: &[GlyphInfo],
+    glyphs: &GlyphView<'_>,
     at: usize,
 ) -> Stretch {
     let (rule, context) = (around(bytes), &sights.context);
@@ -101,7 +97,7 @@ fn look_around(
         &rule.behind,
         rule.behind_count,
         glyphs,
-        at + 1,
+        glyphs.after(at),
     );
     if behind.found == rule.behind_count {
         return Stretch::none(at);
@@ -124,7 +120,7 @@ fn look(
     sights: &Sights,
     lookup: &[u8],
     i: u16,
-    glyphs: &[GlyphInfo],
+    glyphs: &GlyphView<'_>,
     at: usize,
 ) -> Stretch {
     if subtable_type(7, lookup, i) != 8 {
@@ -134,7 +130,7 @@ fn look(
     if u16_at(bytes, 0) != 1 {
         return Stretch::none(at);
     }
-    if replaces(bytes, number(glyphs, at)) {
+    if replaces(bytes, number(glyphs.at(at))) {
         look_around(gdef, sights, bytes, glyphs, at)
     } else {
         Stretch::none(at)
@@ -146,7 +142,7 @@ fn look_among(
     gdef: &[u8],
     sights: &Sights,
     lookup: &[u8],
-    glyphs: &[GlyphInfo],
+    glyphs: &GlyphView<'_>,
     at: usize,
 ) -> Stretch {
     let mut looked = Stretch::none(at);
@@ -160,13 +156,14 @@ fn look_among(
 }
 
 // Flags what a lookup looks at that doesn't fit a place, where that is wanted.
-fn flag_tried(pass: &Pass<'_>, lookup: &[u8], glyphs: &mut [GlyphInfo], at: usize) {
+fn flag_tried(pass: &Pass<'_>, lookup: &[u8], text: &mut GlyphText, at: usize) {
     if !pass.concat {
         return;
     }
-    let sights = pass.lookup.sights(pass.classes.gdef, lookup, &glyphs[at]);
-    let looked = look_among(pass.classes.gdef, &sights, lookup, glyphs, at);
-    flag_joins(glyphs, looked);
+    let gdef = pass.classes.gdef;
+    let sights = pass.lookup.sights(gdef, lookup, text.at(at));
+    let looked = look_among(gdef, &sights, lookup, &text.view(), at);
+    flag_joins(text, looked);
 }
 
 // One glyph for another, by one of a lookup's subtables.
@@ -175,7 +172,7 @@ fn nth(
     sights: &Sights,
     lookup: &[u8],
     i: u16,
-    glyphs: &[GlyphInfo],
+    glyphs: &GlyphView<'_>,
     at: usize,
 ) -> Option<Reversal> {
     if subtable_type(7, lookup, i) != 8 {
@@ -189,7 +186,7 @@ fn first(
     gdef: &[u8],
     sights: &Sights,
     lookup: &[u8],
-    glyphs: &[GlyphInfo],
+    glyphs: &GlyphView<'_>,
     at: usize,
 ) -> Option<Reversal> {
     for i in 0..subtable_count(lookup) {
@@ -202,8 +199,8 @@ fn first(
 }
 
 // What a lookup does at a place.
-fn step_back(pass: &Pass<'_>, lookup: &LookupTable<'_>, text: &mut Vec<GlyphInfo>, at: usize) {
-    let glyph = text[at];
+fn step_back(pass: &Pass<'_>, lookup: &LookupTable<'_>, text: &mut GlyphText, at: usize) {
+    let glyph = *text.at(at);
     if is_passed(&pass.lookup, lookup, &glyph) {
         return;
     }
@@ -213,7 +210,7 @@ fn step_back(pass: &Pass<'_>, lookup: &LookupTable<'_>, text: &mut Vec<GlyphInfo
     }
     let sights = pass.lookup.sights(pass.classes.gdef, bytes, &glyph);
     flag_tried(pass, bytes, text, at);
-    if let Some(it) = first(pass.classes.gdef, &sights, bytes, text, at) {
+    if let Some(it) = first(pass.classes.gdef, &sights, bytes, &text.view(), at) {
         let len = text.len();
         flag_stretch(text, len, it.start, it.stop);
         replace(&pass.classes, text, at, it.glyph, 0);
@@ -227,15 +224,15 @@ fn step_back(pass: &Pass<'_>, lookup: &LookupTable<'_>, text: &mut Vec<GlyphInfo
 /// # Contract
 ///
 /// ```text
-/// ensures { text.new.items ≡ applied_backward (length text.old.items)
-///     (lookup_stepped_back (setting_of pass.now) lookup.now) text.old.items }
+/// ensures { text.new ≡ applied_backward (length text.old)
+///     (lookup_stepped_back (setting_of pass.now) lookup.now) text.old }
 /// ```
 ///
 /// - `applied_backward`, `lookup_stepped_back`: `crates/opentype_gsub/specs/Reversed.antt`
 /// - `setting_of`: `crates/opentype_gsub/specs/Setting.antt`
 ///
 /// </details>
-pub fn apply_backward(pass: &Pass<'_>, lookup: &LookupTable<'_>, text: &mut Vec<GlyphInfo>) {
+pub fn apply_backward(pass: &Pass<'_>, lookup: &LookupTable<'_>, text: &mut GlyphText) {
     for at in (0..text.len()).rev() {
         step_back(pass, lookup, text, at);
     }

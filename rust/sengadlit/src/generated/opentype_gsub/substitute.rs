@@ -11,6 +11,7 @@ use crate::generated::opentype_gsub::pass::{LookupUse, Pass};
 use crate::generated::opentype_gsub::plain::{apply_plain, are_plain};
 use crate::generated::opentype_gsub::presence::first_place;
 use crate::generated::opentype_gsub::reverse::apply_backward;
+use crate::generated::opentype_layout::glyph_text::GlyphText;
 use crate::generated::opentype_layout::looking::wants_concat;
 use crate::generated::opentype_layout::starts::LookupTable;
 use crate::generated::opentype_layout::tables::LayoutTable;
@@ -28,7 +29,7 @@ fn apply_from<'a>(
     pass: &Pass<'a>,
     table: &LookupTable<'a>,
     first: usize,
-    text: &mut Vec<GlyphInfo>,
+    text: &mut GlyphText,
     lookups: &mut LookupRecord,
 ) -> Result<(), ShaperError> {
     if subtable_type(7, table.bytes(), 0) == 8 {
@@ -48,10 +49,11 @@ fn apply(
     lookups: &mut LookupRecord,
     buffer: &mut Buffer,
 ) -> Result<Vec<GlyphInfo>, ShaperError> {
-    let mut text = buffer.take_list();
-    text.extend_from_slice(buffer.glyphs())?;
+    let mut glyphs = buffer.take_list();
+    glyphs.extend_from_slice(buffer.glyphs())?;
+    let mut text = GlyphText::new(glyphs);
     apply_from(pass, table, first, &mut text, lookups)?;
-    Ok(text)
+    Ok(text.into_list())
 }
 
 // Puts these glyphs and this record in the place of the buffer's.

@@ -4,23 +4,25 @@
 
 use crate::generated::opentype_face::bytes::u16_at;
 use crate::generated::opentype_face::lookup::{subtable, subtable_count, subtable_type};
-use crate::generated::opentype_gsub::apply::{is_random, number, value};
+use crate::generated::opentype_gsub::apply::{is_random, value};
 use crate::generated::opentype_gsub::decided::{alternate, set_of, single};
+use crate::generated::opentype_gsub::flagging::flag_joins;
 use crate::generated::opentype_gsub::matching::first_fitting;
 use crate::generated::opentype_gsub::pass::{Pass, Sights};
-use crate::generated::opentype_layout::looking::{RuleSet, Stretch, context_rules, flag_joins};
+use crate::generated::opentype_layout::glyph_text::{GlyphText, GlyphView};
+use crate::generated::opentype_layout::looking::{RuleSet, Stretch, context_rules};
 use crate::generated::opentype_layout::rules::find_rule;
-use crate::generated::shapers_buffer::buffer::GlyphInfo;
+use crate::generated::opentype_layout::sight::number;
 
 // Whether a subtable of type 4 has a ligature that fits a place.
 fn ligates(
     pass: &Pass<'_>,
     sights: &Sights,
     bytes: &[u8],
-    glyphs: &[GlyphInfo],
+    glyphs: &GlyphView<'_>,
     at: usize,
 ) -> bool {
-    match set_of(bytes, number(glyphs, at)) {
+    match set_of(bytes, number(glyphs.at(at))) {
         Some(set) => first_fitting(pass.classes.gdef, &sights.input, set, glyphs, at).is_some(),
         None => false,
     }
@@ -31,17 +33,17 @@ fn alternates(
     pass: &Pass<'_>,
     sights: &Sights,
     bytes: &[u8],
-    glyphs: &[GlyphInfo],
+    glyphs: &GlyphView<'_>,
     at: usize,
 ) -> bool {
-    let glyph = number(glyphs, at);
-    if is_random(pass.lookup.random, &sights.input, &glyphs[at]) {
+    let glyph = number(glyphs.at(at));
+    if is_random(pass.lookup.random, &sights.input, glyphs.at(at)) {
         return match set_of(bytes, glyph) {
             Some(set) => u16_at(set, 0) != 0,
             None => false,
         };
     }
-    alternate(bytes, glyph, value(&sights.input, &glyphs[at])).is_some()
+    alternate(bytes, glyph, value(&sights.input, glyphs.at(at))).is_some()
 }
 
 // Whether a subtable of types 1 to 4 does something at a place.
@@ -50,12 +52,12 @@ fn applies(
     sights: &Sights,
     kind: u16,
     bytes: &[u8],
-    glyphs: &[GlyphInfo],
+    glyphs: &GlyphView<'_>,
     at: usize,
 ) -> bool {
     match kind {
-        1 => single(bytes, number(glyphs, at)).is_some(),
-        2 => set_of(bytes, number(glyphs, at)).is_some(),
+        1 => single(bytes, number(glyphs.at(at))).is_some(),
+        2 => set_of(bytes, number(glyphs.at(at))).is_some(),
         3 => alternates(pass, sights, bytes, glyphs, at),
         4 => ligates(pass, sights, bytes, glyphs, at),
         _ => false,
@@ -68,7 +70,7 @@ fn comes(
     sights: &Sights,
     lookup: &[u8],
     i: u16,
-    glyphs: &[GlyphInfo],
+    glyphs: &GlyphView<'_>,
     at: usize,
 ) -> bool {
     let kind = subtable_type(7, lookup, i);
@@ -122,11 +124,11 @@ fn look_by(
     sights: &Sights,
     lookup: &[u8],
     i: u16,
-    glyphs: &[GlyphInfo],
+    glyphs: &GlyphView<'_>,
     at: usize,
 ) -> Stretch {
     let kind = subtable_type(7, lookup, i);
-    match rules(kind, subtable(7, lookup, i), number(glyphs, at)) {
+    match rules(kind, subtable(7, lookup, i), number(glyphs.at(at))) {
         Some(rules) => {
             let (input, context) = (&sights.input, &sights.context);
             rules.look(pass.classes.gdef, input, context, pass.len, glyphs, at)
@@ -140,7 +142,7 @@ fn look_among(
     pass: &Pass<'_>,
     sights: &Sights,
     lookup: &[u8],
-    glyphs: &[GlyphInfo],
+    glyphs: &GlyphView<'_>,
     at: usize,
 ) -> Stretch {
     let mut looked = Stretch::none(at);
@@ -155,20 +157,20 @@ fn look_among(
 
 // Flags what a lookup's rules look at that don't fit a place. (Few callers want that.)
 #[inline(never)]
-fn flag_looked(pass: &Pass<'_>, lookup: &[u8], glyphs: &mut [GlyphInfo], at: usize) {
-    let sights = pass.lookup.sights(pass.classes.gdef, lookup, &glyphs[at]);
-    let looked = look_among(pass, &sights, lookup, glyphs, at);
-    flag_joins(glyphs, looked);
+fn flag_looked(pass: &Pass<'_>, lookup: &[u8], text: &mut GlyphText, at: usize) {
+    let sights = pass.lookup.sights(pass.classes.gdef, lookup, text.at(at));
+    let looked = look_among(pass, &sights, lookup, &text.view(), at);
+    flag_joins(text, looked);
 }
 
 /// The same where that is wanted.
 #[inline]
-pub(crate) fn flag_tried(pass: &Pass<'_>, lookup: &[u8], glyphs: &mut [GlyphInfo], at: usize) {
+pub(crate) fn flag_tried(pass: &Pass<'_>, lookup: &[u8], text: &mut GlyphText, at: usize) {
     if !pass.concat {
         return;
     }
-    if at >= glyphs.len() {
+    if at >= text.len() {
         return;
     }
-    flag_looked(pass, lookup, glyphs, at);
+    flag_looked(pass, lookup, text, at);
 }

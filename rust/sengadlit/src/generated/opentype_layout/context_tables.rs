@@ -8,13 +8,13 @@ use crate::generated::opentype_face::bytes::u16_at;
 use crate::generated::opentype_face::glyph_tables::{PreparedClassDef, PreparedCoverage};
 use crate::generated::opentype_layout::budget::paid_for;
 use crate::generated::opentype_layout::class_refs::ClassRef;
+use crate::generated::opentype_layout::glyph_text::GlyphView;
 use crate::generated::opentype_layout::rule_heads::PreparedRules;
 use crate::generated::opentype_layout::rules::{
     Matched, Tables, find_rule, place_of_sets, rule_set,
 };
 use crate::generated::opentype_layout::sets::place_in_set;
 use crate::generated::opentype_layout::sight::{Sight, number};
-use crate::generated::shapers_buffer::buffer::GlyphInfo;
 use crate::support::alloc::Global;
 
 /// How many bytes a set of rules costs beside their heads.
@@ -109,7 +109,7 @@ impl<'a> ContextTable<'a> {
         gdef: &[u8],
         input: &Sight,
         context: &Sight,
-        glyphs: &[GlyphInfo],
+        glyphs: &GlyphView<'_>,
         at: usize,
     ) -> Option<Matched<'_>> {
         let at_count = place_of_rules(self.kind == 6, self.bytes);
@@ -144,10 +144,10 @@ impl<'a> ContextTable<'a> {
         input: &Sight,
         context: &Sight,
         set: Option<&PreparedCoverage<'_>>,
-        glyphs: &[GlyphInfo],
+        glyphs: &GlyphView<'_>,
         at: usize,
     ) -> Option<Matched<'_>> {
-        let (bytes, glyph) = (self.bytes, number(&glyphs[at]));
+        let (bytes, glyph) = (self.bytes, number(glyphs.at(at)));
         match u16_at(bytes, 0) {
             1 => {
                 let place = place_in_set(bytes, 2, set, glyph)?;

@@ -209,7 +209,8 @@ fn flag_breaks(
     end
 }
 
-// The same with no concatenation, where the flags want that.
+// No concatenation in so many glyphs from a place on, where the flags want that. The gap moves to that
+// place; returned is where it ends then.
 #[inline]
 fn flag_joins(
     flags: BufferFlags,

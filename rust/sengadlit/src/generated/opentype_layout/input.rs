@@ -2,16 +2,17 @@
 
 //! Where the input of a rule finds its glyphs.
 
+use crate::generated::opentype_layout::glyph_text::GlyphView;
 use crate::generated::opentype_layout::pattern::Pattern;
 use crate::generated::opentype_layout::places::{Places, find_places};
 use crate::generated::opentype_layout::sight::{Sight, ignores_glyph};
-use crate::generated::shapers_buffer::buffer::{GlyphInfo, LigProps};
+use crate::generated::shapers_buffer::buffer::LigProps;
 
 // The ligature that the glyph at a place is or belongs to.
 #[inline]
-fn props_at(glyphs: &[GlyphInfo], at: usize) -> LigProps {
+fn props_at(glyphs: &GlyphView<'_>, at: usize) -> LigProps {
     if at < glyphs.len() {
-        glyphs[at].lig_props
+        glyphs.at(at).lig_props
     } else {
         LigProps::NONE
     }
@@ -41,9 +42,9 @@ fn sees_base(number: u8, props: LigProps) -> Option<bool> {
 }
 
 // How many glyphs stand between a mark and its ligature.
-fn find_base(glyphs: &[GlyphInfo], number: u8, at: usize) -> Option<usize> {
+fn find_base(glyphs: &GlyphView<'_>, number: u8, at: usize) -> Option<usize> {
     for i in 0..at {
-        let seen = sees_base(number, glyphs[at - 1 - i].lig_props);
+        let seen = sees_base(number, glyphs.at(at - 1 - i).lig_props);
         if let Some(is_found) = seen {
             return if is_found { Some(i) } else { None };
         }
@@ -52,18 +53,18 @@ fn find_base(glyphs: &[GlyphInfo], number: u8, at: usize) -> Option<usize> {
 }
 
 // Whether a lookup ignores the ligature of a mark.
-fn sees_through(gdef: &[u8], sight: &Sight, glyphs: &[GlyphInfo], number: u8, at: usize) -> bool {
+fn sees_through(gdef: &[u8], sight: &Sight, glyphs: &GlyphView<'_>, number: u8, at: usize) -> bool {
     if sight.of_gpos {
         return false;
     }
     match find_base(glyphs, number, at) {
-        Some(i) => ignores_glyph(gdef, sight.flag, sight.set, &glyphs[at - 1 - i]),
+        Some(i) => ignores_glyph(gdef, sight.flag, sight.set, glyphs.at(at - 1 - i)),
         None => false,
     }
 }
 
 // Whether a glyph can't be of an input, by the ligatures that both belong to.
-fn apart(gdef: &[u8], sight: &Sight, glyphs: &[GlyphInfo], at: usize, place: usize) -> bool {
+fn apart(gdef: &[u8], sight: &Sight, glyphs: &GlyphView<'_>, at: usize, place: usize) -> bool {
     let first = props_at(glyphs, at);
     let other = props_at(glyphs, place);
     let is_same = ligature(other) == ligature(first);
@@ -80,7 +81,7 @@ fn apart(gdef: &[u8], sight: &Sight, glyphs: &[GlyphInfo], at: usize, place: usi
 fn is_any_apart(
     gdef: &[u8],
     sight: &Sight,
-    glyphs: &[GlyphInfo],
+    glyphs: &GlyphView<'_>,
     at: usize,
     places: &[usize],
 ) -> bool {
@@ -117,11 +118,12 @@ pub fn find_input(
     sight: &Sight,
     pattern: &Pattern<'_>,
     count: u16,
-    glyphs: &[GlyphInfo],
+    glyphs: &GlyphView<'_>,
     at: usize,
     places: &mut Places,
 ) -> bool {
-    if !find_places(gdef, sight, pattern, count, glyphs, at + 1, places) {
+    let from = glyphs.after(at);
+    if !find_places(gdef, sight, pattern, count, glyphs, from, places) {
         return false;
     }
     !is_any_apart(gdef, sight, glyphs, at, places.as_slice())

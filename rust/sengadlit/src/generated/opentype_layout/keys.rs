@@ -7,6 +7,7 @@ use crate::support::prelude::*;
 use crate::generated::opentype_face::bytes::u16_at;
 use crate::generated::opentype_face::glyph_sets::coverage;
 use crate::generated::opentype_layout::class_refs::ClassRef;
+use crate::generated::opentype_layout::glyph_text::GlyphView;
 use crate::generated::opentype_layout::rule_heads::RuleHead;
 use crate::generated::opentype_layout::sight::{Sight, ignores_glyph, number};
 use crate::generated::shapers_buffer::buffer::GlyphInfo;
@@ -88,6 +89,22 @@ fn key_of(gdef: &[u8], sight: &Sight, glyph: &GlyphInfo) -> Option<Key> {
     }
 }
 
+// What a pattern must look for to find its next glyph from a place on, where a search has passed over
+// the glyphs before it. (Apart from the first glyph, so that the loop costs nothing where there is no
+// such glyph.)
+#[inline(never)]
+fn key_further(gdef: &[u8], sight: &Sight, glyphs: &GlyphView<'_>, from: usize) -> Key {
+    let mut i = from;
+    while let Some(glyph) = glyphs.get(i) {
+        let key = key_of(gdef, sight, glyph);
+        if let Some(key) = key {
+            return key;
+        }
+        i += 1;
+    }
+    Key::Nothing
+}
+
 /// What a pattern must look for to find its next glyph from a place on.
 ///
 /// <details><summary>Contract</summary>
@@ -103,9 +120,29 @@ fn key_of(gdef: &[u8], sight: &Sight, glyph: &GlyphInfo) -> Option<Key> {
 /// - `next_in`: `crates/opentype_layout/specs/Pattern.antt`
 ///
 /// </details>
-pub fn key_behind(gdef: &[u8], sight: &Sight, glyphs: &[GlyphInfo], from: usize) -> Key {
-    for i in from..glyphs.len() {
-        let key = key_of(gdef, sight, &glyphs[i]);
+pub fn key_behind(gdef: &[u8], sight: &Sight, glyphs: &GlyphView<'_>, from: usize) -> Key {
+    let Some(glyph) = glyphs.get(from) else {
+        return Key::Nothing;
+    };
+    let key = key_of(gdef, sight, glyph);
+    if let Some(key) = key {
+        return key;
+    }
+    key_further(gdef, sight, glyphs, from + 1)
+}
+
+// What a pattern must look for to find the nearest glyph before a place, where a search has passed
+// over so many nearer ones.
+#[inline(never)]
+fn key_further_before(
+    gdef: &[u8],
+    sight: &Sight,
+    glyphs: &GlyphView<'_>,
+    at: usize,
+    from: usize,
+) -> Key {
+    for i in from..at {
+        let key = key_of(gdef, sight, glyphs.at(at - 1 - i));
         if let Some(key) = key {
             return key;
         }
@@ -114,14 +151,15 @@ pub fn key_behind(gdef: &[u8], sight: &Sight, glyphs: &[GlyphInfo], from: usize)
 }
 
 /// What a pattern must look for to find the nearest glyph before a place.
-pub(crate) fn key_before(gdef: &[u8], sight: &Sight, glyphs: &[GlyphInfo], at: usize) -> Key {
-    for i in 0..at {
-        let key = key_of(gdef, sight, &glyphs[at - 1 - i]);
-        if let Some(key) = key {
-            return key;
-        }
+pub(crate) fn key_before(gdef: &[u8], sight: &Sight, glyphs: &GlyphView<'_>, at: usize) -> Key {
+    if at == 0 {
+        return Key::Nothing;
     }
-    Key::Nothing
+    let key = key_of(gdef, sight, glyphs.at(at - 1));
+    if let Some(key) = key {
+        return key;
+    }
+    key_further_before(gdef, sight, glyphs, at, 1)
 }
 
 /// What the lists of a rule must begin with, so that it may fit a place.

@@ -6,6 +6,7 @@ use crate::support::prelude::*;
 
 use crate::generated::opentype_face::bytes::{table_at, u16_at};
 use crate::generated::opentype_face::glyph_sets::coverage;
+use crate::generated::opentype_layout::glyph_text::GlyphView;
 use crate::generated::opentype_layout::input::find_input;
 use crate::generated::opentype_layout::pattern::Pattern;
 use crate::generated::opentype_layout::places::Places;
@@ -45,15 +46,7 @@ pub enum RuleSet<'a> {
 
 // Whether a search for place `k` of a rule passes over a glyph.
 #[inline]
-fn passes(
-    gdef: &[u8],
-    sight: &Sight,
-    pattern: &Pattern<'_>,
-    k: u16,
-    glyphs: &[GlyphInfo],
-    i: usize,
-) -> bool {
-    let glyph = &glyphs[i];
+fn passes(gdef: &[u8], sight: &Sight, pattern: &Pattern<'_>, k: u16, glyph: &GlyphInfo) -> bool {
     sight
         .sees(gdef, pattern.fits(k, number(glyph)), glyph)
         .is_none()
@@ -65,15 +58,17 @@ fn stop_behind(
     sight: &Sight,
     pattern: &Pattern<'_>,
     k: u16,
-    glyphs: &[GlyphInfo],
+    glyphs: &GlyphView<'_>,
     from: usize,
 ) -> usize {
-    for i in from..glyphs.len() {
-        if !passes(gdef, sight, pattern, k, glyphs, i) {
+    let mut i = from;
+    while let Some(glyph) = glyphs.get(i) {
+        if !passes(gdef, sight, pattern, k, glyph) {
             return i + 1;
         }
+        i += 1;
     }
-    from.max(glyphs.len())
+    i
 }
 
 // The same backwards from a place, by how many glyphs stand between.
@@ -82,12 +77,12 @@ fn stop_back(
     sight: &Sight,
     pattern: &Pattern<'_>,
     k: u16,
-    glyphs: &[GlyphInfo],
+    glyphs: &GlyphView<'_>,
     at: usize,
     from: usize,
 ) -> usize {
     for i in from..at {
-        if !passes(gdef, sight, pattern, k, glyphs, at - 1 - i) {
+        if !passes(gdef, sight, pattern, k, glyphs.at(at - 1 - i)) {
             return i + 1;
         }
     }
@@ -114,7 +109,7 @@ pub fn sweep_behind(
     sight: &Sight,
     pattern: &Pattern<'_>,
     count: u16,
-    glyphs: &[GlyphInfo],
+    glyphs: &GlyphView<'_>,
     from: usize,
 ) -> Sweep {
     let mut to = from;
@@ -123,7 +118,7 @@ pub fn sweep_behind(
             let to = stop_behind(gdef, sight, pattern, found, glyphs, to);
             return Sweep { to, found };
         };
-        to = i + 1;
+        to = glyphs.after(i);
     }
     Sweep { to, found: count }
 }
@@ -148,7 +143,7 @@ pub fn sweep_back(
     sight: &Sight,
     pattern: &Pattern<'_>,
     count: u16,
-    glyphs: &[GlyphInfo],
+    glyphs: &GlyphView<'_>,
     at: usize,
 ) -> Sweep {
     let mut to = 0;
@@ -262,7 +257,7 @@ fn look_around(
     gdef: &[u8],
     context: &Sight,
     old_len: usize,
-    glyphs: &[GlyphInfo],
+    glyphs: &GlyphView<'_>,
     at: usize,
     rule: &Rule<'_>,
     end: usize,
@@ -286,7 +281,7 @@ fn look(
     sight: &Sight,
     context: &Sight,
     old_len: usize,
-    glyphs: &[GlyphInfo],
+    glyphs: &GlyphView<'_>,
     at: usize,
     rule: &Rule<'_>,
 ) -> Stretch {
@@ -299,7 +294,7 @@ fn look(
         &rule.input,
         rule.input_count - 1,
         glyphs,
-        at + 1,
+        glyphs.after(at),
     );
     if !is_one_input(gdef, sight, rule, input.found, glyphs, at) {
         return Stretch::none(at);
@@ -316,7 +311,7 @@ fn is_one_input(
     sight: &Sight,
     rule: &Rule<'_>,
     count: u16,
-    glyphs: &[GlyphInfo],
+    glyphs: &GlyphView<'_>,
     at: usize,
 ) -> bool {
     let (input, mut places) = (&rule.input, Places::new());
@@ -362,7 +357,7 @@ impl<'a> RuleSet<'a> {
         sight: &Sight,
         context: &Sight,
         old_len: usize,
-        glyphs: &[GlyphInfo],
+        glyphs: &GlyphView<'_>,
         at: usize,
     ) -> Stretch {
         let mut looked = Stretch::none(at);

@@ -5,6 +5,7 @@
 use crate::generated::opentype_face::bytes::{table_at, u16_at};
 use crate::generated::opentype_face::glyph_sets::coverage;
 use crate::generated::opentype_layout::class_refs::ClassRef;
+use crate::generated::opentype_layout::glyph_text::GlyphView;
 use crate::generated::opentype_layout::sight::{Sight, number};
 use crate::generated::shapers_buffer::buffer::GlyphInfo;
 
@@ -46,18 +47,31 @@ impl<'a> Pattern<'a> {
         }
     }
 
-    // What a search for a place makes of the glyph at another.
-    #[inline]
-    fn sees(
+    // What a search for a place makes of a glyph.
+    fn sees(&self, gdef: &[u8], sight: &Sight, k: u16, glyph: &GlyphInfo) -> Option<bool> {
+        sight.sees(gdef, self.fits(k, number(glyph)), glyph)
+    }
+
+    // The first glyph from a place on that fits a place of the rule, where a search has passed over
+    // those before it. (Apart from the first glyph, at which most searches end: a loop costs more.)
+    #[inline(never)]
+    fn next_further(
         &self,
         gdef: &[u8],
         sight: &Sight,
         k: u16,
-        glyphs: &[GlyphInfo],
-        i: usize,
-    ) -> Option<bool> {
-        let fits = self.fits(k, number(&glyphs[i]));
-        sight.sees(gdef, fits, &glyphs[i])
+        glyphs: &GlyphView<'_>,
+        from: usize,
+    ) -> Option<usize> {
+        let mut i = from;
+        while let Some(glyph) = glyphs.get(i) {
+            let seen = self.sees(gdef, sight, k, glyph);
+            if let Some(is_found) = seen {
+                return if is_found { Some(i) } else { None };
+            }
+            i += 1;
+        }
+        None
     }
 
     /// The first glyph from a place on that fits a place of the rule.
@@ -74,16 +88,39 @@ impl<'a> Pattern<'a> {
     /// - `fits`, `next_in`: `crates/opentype_layout/specs/Pattern.antt`
     ///
     /// </details>
+    #[inline]
     pub fn next(
         &self,
         gdef: &[u8],
         sight: &Sight,
         k: u16,
-        glyphs: &[GlyphInfo],
+        glyphs: &GlyphView<'_>,
         from: usize,
     ) -> Option<usize> {
-        for i in from..glyphs.len() {
-            let seen = self.sees(gdef, sight, k, glyphs, i);
+        let Some(glyph) = glyphs.get(from) else {
+            return None;
+        };
+        let seen = self.sees(gdef, sight, k, glyph);
+        if let Some(is_found) = seen {
+            return if is_found { Some(from) } else { None };
+        }
+        self.next_further(gdef, sight, k, glyphs, from + 1)
+    }
+
+    // The nearest glyph before a place that fits a place of the rule, by how many glyphs stand between,
+    // where a search has passed over so many nearer ones.
+    #[inline(never)]
+    fn previous_further(
+        &self,
+        gdef: &[u8],
+        sight: &Sight,
+        k: u16,
+        glyphs: &GlyphView<'_>,
+        at: usize,
+        from: usize,
+    ) -> Option<usize> {
+        for i in from..at {
+            let seen = self.sees(gdef, sight, k, glyphs.at(at - 1 - i));
             if let Some(is_found) = seen {
                 return if is_found { Some(i) } else { None };
             }
@@ -108,21 +145,23 @@ impl<'a> Pattern<'a> {
     /// - `fits`, `previous_in`: `crates/opentype_layout/specs/Pattern.antt`
     ///
     /// </details>
+    #[inline]
     pub fn previous(
         &self,
         gdef: &[u8],
         sight: &Sight,
         k: u16,
-        glyphs: &[GlyphInfo],
+        glyphs: &GlyphView<'_>,
         at: usize,
         from: usize,
     ) -> Option<usize> {
-        for i in from..at {
-            let seen = self.sees(gdef, sight, k, glyphs, at - 1 - i);
-            if let Some(is_found) = seen {
-                return if is_found { Some(i) } else { None };
-            }
+        if from >= at {
+            return None;
         }
-        None
+        let seen = self.sees(gdef, sight, k, glyphs.at(at - 1 - from));
+        if let Some(is_found) = seen {
+            return if is_found { Some(from) } else { None };
+        }
+        self.previous_further(gdef, sight, k, glyphs, at, from + 1)
     }
 }

@@ -2,9 +2,9 @@
 
 //! Where the places of a rule find their glyphs.
 
+use crate::generated::opentype_layout::glyph_text::GlyphView;
 use crate::generated::opentype_layout::pattern::Pattern;
 use crate::generated::opentype_layout::sight::Sight;
-use crate::generated::shapers_buffer::buffer::GlyphInfo;
 use crate::support::arrayvec::ArrayVec;
 
 /// How many places a rule has at most behind its first one.
@@ -40,7 +40,7 @@ pub fn find_places(
     sight: &Sight,
     pattern: &Pattern<'_>,
     count: u16,
-    glyphs: &[GlyphInfo],
+    glyphs: &GlyphView<'_>,
     from: usize,
     places: &mut Places,
 ) -> bool {
@@ -51,7 +51,7 @@ pub fn find_places(
             return false;
         };
         places.push(place);
-        from = place + 1;
+        from = glyphs.after(place);
     }
     true
 }

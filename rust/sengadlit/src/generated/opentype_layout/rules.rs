@@ -7,6 +7,7 @@ use crate::support::prelude::*;
 use crate::generated::opentype_face::bytes::{table_at, u16_at};
 use crate::generated::opentype_face::glyph_tables::PreparedCoverage;
 use crate::generated::opentype_layout::class_refs::ClassRef;
+use crate::generated::opentype_layout::glyph_text::GlyphView;
 use crate::generated::opentype_layout::input::find_input;
 use crate::generated::opentype_layout::keys::{Key, Keys, key_before, key_behind};
 use crate::generated::opentype_layout::pattern::Pattern;
@@ -14,7 +15,6 @@ use crate::generated::opentype_layout::places::Places;
 use crate::generated::opentype_layout::rule_heads::{Asked, PreparedRules, nth};
 use crate::generated::opentype_layout::sets::{place_in_set, place_of_first};
 use crate::generated::opentype_layout::sight::{Sight, number};
-use crate::generated::shapers_buffer::buffer::GlyphInfo;
 
 /// What a rule looks for, and the records of the lookups that it applies.
 #[derive(Clone, Copy, Debug)]
@@ -75,7 +75,7 @@ fn look_back(
     sight: &Sight,
     pattern: &Pattern<'_>,
     count: u16,
-    glyphs: &[GlyphInfo],
+    glyphs: &GlyphView<'_>,
     at: usize,
 ) -> Option<usize> {
     let mut from = 0;
@@ -96,14 +96,14 @@ fn look_ahead(
     sight: &Sight,
     pattern: &Pattern<'_>,
     count: u16,
-    glyphs: &[GlyphInfo],
+    glyphs: &GlyphView<'_>,
     from: usize,
 ) -> Option<usize> {
     let mut from = from;
     for k in 0..count {
         let found = pattern.next(gdef, sight, k, glyphs, from);
         if let Some(i) = found {
-            from = i + 1;
+            from = glyphs.after(i);
         } else {
             return None;
         }
@@ -127,7 +127,7 @@ impl<'a> Rule<'a> {
         &self,
         gdef: &[u8],
         context: &Sight,
-        glyphs: &[GlyphInfo],
+        glyphs: &GlyphView<'_>,
         at: usize,
         behind: &[usize],
     ) -> Option<Matched<'a>> {
@@ -168,7 +168,7 @@ impl<'a> Rule<'a> {
         gdef: &[u8],
         input: &Sight,
         context: &Sight,
-        glyphs: &[GlyphInfo],
+        glyphs: &GlyphView<'_>,
         at: usize,
     ) -> Option<Matched<'a>> {
         if self.input_count == 0 {
@@ -206,7 +206,7 @@ fn before_key(
     of: &ClassRef<'_>,
     gdef: &[u8],
     sight: &Sight,
-    glyphs: &[GlyphInfo],
+    glyphs: &GlyphView<'_>,
     at: usize,
 ) -> Key {
     if !is_asked {
@@ -223,7 +223,7 @@ fn behind_key(
     of: &ClassRef<'_>,
     gdef: &[u8],
     sight: &Sight,
-    glyphs: &[GlyphInfo],
+    glyphs: &GlyphView<'_>,
     from: usize,
 ) -> Key {
     if !is_asked {
@@ -359,7 +359,7 @@ impl<'a> Tables<'a> {
         gdef: &[u8],
         input: &Sight,
         context: &Sight,
-        glyphs: &[GlyphInfo],
+        glyphs: &GlyphView<'_>,
         at: usize,
     ) -> Keys {
         let (format, end) = (self.format, end_of(at, &[]));
@@ -380,7 +380,7 @@ impl<'a> Tables<'a> {
                 gdef,
                 input,
                 glyphs,
-                at + 1,
+                glyphs.after(at),
             ),
             behind: behind_key(
                 asked.behind,
@@ -415,7 +415,7 @@ impl<'a> Tables<'a> {
         input: &Sight,
         context: &Sight,
         bytes: &[u8],
-        glyphs: &[GlyphInfo],
+        glyphs: &GlyphView<'_>,
         at: usize,
     ) -> bool {
         if !self.chained {
@@ -429,7 +429,7 @@ impl<'a> Tables<'a> {
         let input_count = u16_at(bytes, input_at);
         if input_count != 1 {
             return input_count > 1
-                && key_behind(gdef, input, glyphs, at + 1).bars_set(set_at(
+                && key_behind(gdef, input, glyphs, glyphs.after(at)).bars_set(set_at(
                     self.input.bytes,
                     bytes,
                     input_at + 4,
@@ -477,7 +477,7 @@ impl<'a> Tables<'a> {
         context: &Sight,
         set: &'a [u8],
         prepared: Option<&PreparedRules<'_>>,
-        glyphs: &[GlyphInfo],
+        glyphs: &GlyphView<'_>,
         at: usize,
     ) -> Option<Matched<'a>> {
         // (most classes of a font have no rule)
@@ -554,7 +554,7 @@ pub fn find_rule<'a>(
     context: &Sight,
     bytes: &'a [u8],
     set: Option<&PreparedCoverage<'_>>,
-    glyphs: &[GlyphInfo],
+    glyphs: &GlyphView<'_>,
     at: usize,
 ) -> Option<Matched<'a>> {
     let format = u16_at(bytes, 0);
@@ -566,11 +566,11 @@ pub fn find_rule<'a>(
             return None;
         }
         let first = place_of_first(chained, bytes);
-        place_in_set(bytes, first, set, number(&glyphs[at]))?;
+        place_in_set(bytes, first, set, number(glyphs.at(at)))?;
         let rule = Tables::of_sets(chained, bytes).rule(bytes);
         return rule.fit(gdef, input, context, glyphs, at);
     }
-    let glyph = number(&glyphs[at]);
+    let glyph = number(glyphs.at(at));
     let place = place_in_set(bytes, 2, set, glyph)?;
     let tables = Tables::of(chained, bytes);
     let rules = match format {

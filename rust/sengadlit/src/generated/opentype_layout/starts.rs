@@ -9,6 +9,7 @@ use crate::generated::opentype_face::glyph_sets::coverage;
 use crate::generated::opentype_face::lookup::subtable_count;
 use crate::generated::opentype_face::ranges::Ranges;
 use crate::generated::opentype_layout::bits::first_bit;
+use crate::generated::opentype_layout::glyph_text::GlyphView;
 use crate::generated::opentype_layout::grid::Grid;
 use crate::generated::opentype_layout::heads::{headed_place, heads_of, masked_place};
 use crate::generated::opentype_layout::lookup_rows::mark_column;
@@ -571,8 +572,8 @@ impl<'a> LookupTable<'a> {
         }
     }
 
-    /// The next place of a text, from one on, that is to be tried; a lookup with this mask begins
-    /// at none before it. A table without bits isn't searched.
+    /// The next place of a list of glyphs, from one on, that is to be tried; a lookup with this mask
+    /// begins at none before it. A table without bits isn't searched.
     ///
     /// <details><summary>Contract</summary>
     ///
@@ -588,10 +589,50 @@ impl<'a> LookupTable<'a> {
     ///
     /// </details>
     #[inline]
-    pub fn next_place(&self, of_gpos: bool, mask: u32, glyphs: &[GlyphInfo], from: usize) -> usize {
+    pub fn next_place_in(
+        &self,
+        of_gpos: bool,
+        mask: u32,
+        glyphs: &[GlyphInfo],
+        from: usize,
+    ) -> usize {
         match self.starts {
             Some(starts) => starts.next_place(of_gpos, mask, glyphs, from),
             None => masked_place(mask, glyphs, from),
         }
+    }
+
+    /// The next place of a text, from one on, that is to be tried; a lookup with this mask begins at
+    /// none before it. (It runs along one part of the text after the other, since a glyph of a list is
+    /// reached faster than one of a text.)
+    ///
+    /// <details><summary>Contract</summary>
+    ///
+    /// # Contract
+    ///
+    /// ```text
+    /// ensures behind { min from (length glyphs.now) ≤ result }
+    /// ensures within { result ≤ length glyphs.now }
+    /// ensures passed { ArePassed of_gpos self.now mask glyphs.now from result }
+    /// ```
+    ///
+    /// - `ArePassed`: `crates/opentype_layout/specs/Starts.antt`
+    ///
+    /// </details>
+    #[inline]
+    pub fn next_place(
+        &self,
+        of_gpos: bool,
+        mask: u32,
+        glyphs: &GlyphView<'_>,
+        from: usize,
+    ) -> usize {
+        let (before, behind) = glyphs.parts();
+        let place = self.next_place_in(of_gpos, mask, before, from);
+        if place < before.len() {
+            return place;
+        }
+        let from = from.saturating_sub(before.len());
+        before.len() + self.next_place_in(of_gpos, mask, behind, from)
     }
 }

@@ -6,7 +6,7 @@ use Rattle.opentype_layout.proofs.rules.Tables.are_sets_barred.Goals as goal
 pub returns-then-input_count-gt1 : goal.returns-then-input_count-gt1
 returns-then-input_count-gt1 c = λ t. none_chained _ _ _ (kind c.args.self.now) _ _ _ c.if-not-self.false (sets_input _ _ _ (kind c.args.self.now) _ _ _ c.key_behind.result c.if-self-ne3.false
     (rw (c.u16_at-input_count.ensures, c.from.ensures, c.u16_at-before_count.ensures) at c.if-input_count-gt1.true)
-    c.key_behind.ensures
+    (rw c.after.ensures at c.key_behind.ensures)
     (rw (c.set_at.ensures, c.from.ensures, c.u16_at-before_count.ensures) at (sym c.bars_set.ensures ∙ t)))
 
 pub returns-then-bars_set : goal.returns-then-bars_set

@@ -1,7 +1,7 @@
 use Rattle.opentype_layout.specs.Text.{glyph_at}
 use Rattle.opentype_layout.specs.Pattern.{fits, seen_by}
 use Rattle.opentype_layout.proofs.Sights.{IsSought}
-use Rattle.opentype_layout.proofs.pattern.Pattern.previous.Given as goal
+use Rattle.opentype_layout.proofs.pattern.Pattern.previous_further.Given as goal
 use Rattle.std.proofs.Common.{◌-◌}
 
 abbrev pub invariant-loop-i : goal.invariant-loop-i
