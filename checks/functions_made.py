@@ -45,7 +45,8 @@ ERASED = {"shapers_spans::reads::Reads"}
 # Types that harness.rs draws by hand.
 BY_HAND = set(
     "Span GlyphInfo Buffer Script Tag Map Plan LotFont LotTables LotContext LotProperties"
-    " PreparedClassDef PreparedCoverage PairTable SubtableTables Starts LookupTable PreparedTable LayoutTable".split()
+    " PreparedClassDef PreparedCoverage PairTable SubtableTables Starts LookupTable PreparedTable LayoutTable"
+    " GlyphText".split()
 )
 # The words with which a result begins that says that memory was refused, by the type of the error.
 MEMORY = {"ShaperError": [1, 0], "CallError": [1, 1, 0], "AllocError": [1]}

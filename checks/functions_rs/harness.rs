@@ -8,6 +8,7 @@ use crate::buffer::{
 };
 use crate::font::{Font, GlyphId, Tables};
 use crate::generated::opentype_face::glyph_tables::{PreparedClassDef, PreparedCoverage};
+use crate::generated::opentype_layout::glyph_text::GlyphText;
 use crate::generated::opentype_layout::pair_tables::PairTable;
 use crate::generated::opentype_layout::starts::{LookupTable, Starts};
 use crate::generated::opentype_layout::subtable_tables::SubtableTables;
@@ -543,6 +544,22 @@ impl Draw for LayoutTable<'static> {
         }
         let prepared: &'static PreparedTable<'static> = Draw::draw(choices);
         prepared.table()
+    }
+}
+
+// A text gets its gap by edits.
+impl Draw for GlyphText {
+    fn draw(choices: &mut Choices) -> Self {
+        let mut text = GlyphText::new(Draw::draw(choices));
+        for _ in 0..choices.below(4) {
+            let place = choices.below(text.len() as u64 + 1) as usize;
+            if place < text.len() && choices.once_in(2) {
+                text.remove(place);
+            } else {
+                text.insert(place, Draw::draw(choices)).unwrap();
+            }
+        }
+        text
     }
 }
 
