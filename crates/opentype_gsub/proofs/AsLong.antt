@@ -1,5 +1,5 @@
 -- What leaves as many glyphs as there were, so that a place of the text is one still.
-use Rattle.std.proofs.Common.{◌≡◌, ◌∙◌, ℕ, ◌<◌, Bool, List, length, sym, ap, arith, length-set}
+use Rattle.std.proofs.Common.{◌≡◌, ◌∙◌, ℕ, ◌<◌, Bool, List, length, sym, ap, length-set}
 use Rattle.std.specs.Prelude.{slice_set}
 use Rattle.shapers_buffer.specs.GlyphFlags.{unsafe_inside}
 use Rattle.shapers_buffer.specs.Glyphs.{Glyph, Glyphs}
