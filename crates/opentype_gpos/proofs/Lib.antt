@@ -11,6 +11,9 @@ pub mod MarkKeeping
 mod MarkRows
 pub mod KernKeeping
 mod KernRows
+pub mod KernLefts
+pub mod KernQuiet
+mod KernLeftRows
 mod TypeRows
 pub mod Inside
 pub mod Turning

@@ -10,6 +10,7 @@ pub mod Called
 pub mod CalledWalk
 pub mod Along
 pub mod Kerned
+pub mod KernLefts
 pub mod MarkBoxes
 pub mod Fallback
 pub mod Finished

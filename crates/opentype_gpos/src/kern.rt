@@ -179,7 +179,7 @@ fn kern_pair(
 }
 
 #[inline]
-fn is_across(bytes: &[u8]) -> bool
+pub(crate) fn is_across(bytes: &[u8]) -> bool
     ensures { result ≡ is_across bytes.now }
 {
     u8_at(bytes, 5) / 4 % 2 == 1

@@ -16,6 +16,7 @@ pub mod fallback;
 pub mod finish;
 pub mod joins;
 pub mod kern;
+pub mod kern_lefts;
 pub mod laws;
 pub mod making;
 pub mod mark_boxes;

@@ -147,7 +147,7 @@ fn kern_pair(
 }
 
 #[inline]
-fn is_across(bytes: &[u8]) -> bool {
+pub(crate) fn is_across(bytes: &[u8]) -> bool {
     u8_at(bytes, 5) / 4 % 2 == 1
 }
 

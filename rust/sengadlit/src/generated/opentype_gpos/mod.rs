@@ -17,6 +17,7 @@ pub mod fallback;
 pub mod finish;
 pub mod joins;
 pub mod kern;
+pub mod kern_lefts;
 pub mod making;
 pub mod mark_boxes;
 pub mod moved;
