@@ -296,6 +296,79 @@ fn pairs_by_the_table_kern() {
     assert_eq!(glyphs.glyph_positions()[0].x_advance, 600);
 }
 
+/// A list of pairs (format 0) of the table `kern`, with its coverage.
+fn list_of_pairs(coverage: u16, pairs: &[[u16; 3]]) -> Vec<u16> {
+    let count = u16::try_from(pairs.len()).unwrap();
+    let head = [0, 14 + 6 * count, coverage, count, 0, 0, 0];
+    [&head[..], pairs.as_flattened()].concat()
+}
+
+/// Tables `kern` of several kinds, each with how many texts of [`pairs_of_a_prepared_face`] it moves.
+fn tables_of_pairs() -> Vec<(usize, Vec<Vec<u16>>)> {
+    let (a_c, b_b, c_a) = ([1, 3, 0xFF9C], [2, 2, 40], [3, 1, 0xFFF1]);
+    let pairs_of_b = list_of_pairs(1, &[b_b]);
+    // A and C by their classes
+    let classes = vec![0, 28, 0x201, 2, 14, 20, 26, 1, 1, 26, 3, 1, 0, 100];
+    vec![
+        (0, vec![list_of_pairs(1, &[])]),
+        (4, vec![list_of_pairs(1, &[a_c])]),
+        (2, vec![pairs_of_b.clone()]),
+        (6, vec![list_of_pairs(1, &[a_c, c_a])]),
+        // (a search by halves finds only the second one)
+        (2, vec![list_of_pairs(1, &[c_a, b_b, a_c])]),
+        (2, vec![pairs_of_b.clone(), list_of_pairs(0, &[c_a])]),
+        (6, vec![pairs_of_b.clone(), classes]),
+        // across the line
+        (2, vec![pairs_of_b.clone(), list_of_pairs(5, &[b_b])]),
+        // format 1 is none, and a subtable shorter than its header is the last one
+        (
+            0,
+            vec![
+                vec![0, 8, 0x101, 1],
+                vec![0, 5, 1],
+                list_of_pairs(1, &[a_c]),
+            ],
+        ),
+        // more subtables than are looked through
+        (2, vec![pairs_of_b; 17]),
+    ]
+}
+
+/// A prepared face looks for pairs only where a text has a glyph that may begin one: it moves the same ones
+/// as a face that isn't prepared.
+#[test]
+fn pairs_of_a_prepared_face() {
+    let without = |tags: &[&str]| -> Vec<Feature> {
+        let features = tags.iter().map(|tag| tag.parse().unwrap());
+        features.collect()
+    };
+    let (kerned, unkerned) = (without(&["-liga"]), without(&["-liga", "-kern"]));
+    for (moved, subtables) in tables_of_pairs() {
+        let count = u16::try_from(subtables.len()).unwrap();
+        let table = words(&[vec![0, count], subtables.concat()].concat());
+        let data = font_without_gpos(&[(*b"kern", table)]);
+        let face = Face::parse(&data, 0).unwrap();
+        let mut prepared = face.clone();
+        prepared.prepare();
+        let mut count = 0;
+        for direction in [Direction::LeftToRight, Direction::RightToLeft] {
+            for characters in ["", "A", "AC", "CA", "BB", "BC", "ABC", "BACAB"] {
+                let shaped = |face: &Face<'_>, features: &[Feature]| {
+                    let mut buffer = text(characters);
+                    buffer.set_direction(direction);
+                    let glyphs = shape(face, features, buffer);
+                    glyphs.serialize(face, SerializeFlags::GLYPH_FLAGS)
+                };
+                let glyphs = shaped(&face, &kerned);
+                assert_eq!(shaped(&prepared, &kerned), glyphs);
+                assert_eq!(shaped(&prepared.clone(), &kerned), glyphs);
+                count += usize::from(glyphs != shaped(&face, &unkerned));
+            }
+        }
+        assert_eq!(count, moved);
+    }
+}
+
 /// Marks that the font lacks, over and under A and a ligature, by boxes. (hb-shape's answers.)
 #[test]
 fn marks_without_gpos() {

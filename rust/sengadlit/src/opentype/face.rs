@@ -11,6 +11,7 @@ use crate::generated::opentype_face::face;
 use crate::generated::opentype_face::outlines::{box_bottom, box_top, box_width, has_box};
 use crate::generated::opentype_font::font::OpenTypeFont;
 use crate::generated::opentype_font::text_tags::TextTags;
+use crate::generated::opentype_gpos::kern_lefts::KernLefts;
 use crate::generated::opentype_layout::face_tables::{FaceTables, PreparedFace};
 use core::fmt;
 
@@ -36,7 +37,7 @@ pub struct Face<'a> {
     file_len: usize,
     prepared: Option<PreparedFace<'a>>,
     /// The table `kern`, empty where the font has none.
-    pub(super) kern: &'a [u8],
+    pub(super) kern: KernLefts<'a>,
     pub(super) scale: Option<Scale>,
     is_variable: bool,
 }
@@ -53,7 +54,7 @@ impl<'a> Face<'a> {
             face: face::parse(data, index)?,
             file_len: data.len(),
             prepared: None,
-            kern: table(data, directory, KERN),
+            kern: KernLefts::of(table(data, directory, KERN)),
             scale: None,
             is_variable: !table(data, directory, FVAR).is_empty(),
         })
@@ -70,13 +71,15 @@ impl<'a> Face<'a> {
     }
 
     /// Makes tables of the font's characters, classes and lookups, by which texts are shaped faster, with
-    /// the same glyphs. It takes as long as a hundred words or so, in fonts of Chinese or Korean a
-    /// thousand, so that it pays for a face that shapes many texts. The tables take 512 KiB at most, or
-    /// half as much as the font's file, where that is more; what they have no room for is read from the
-    /// font's bytes. Where memory is refused there are fewer tables, or none.
+    /// the same glyphs, and finds which glyphs begin pairs of the table `kern`. It takes as long as a hundred
+    /// words or so, in fonts of Chinese or Korean a thousand, so that it pays for a face that shapes many
+    /// texts. The tables take 512 KiB at most, or half as much as the font's file, where that is more; what
+    /// they have no room for is read from the font's bytes. Where memory is refused there are fewer tables,
+    /// or none.
     pub fn prepare(&mut self) {
         if self.prepared.is_none() {
             self.prepared = Some(PreparedFace::new(Global, &self.face, self.file_len));
+            self.kern = KernLefts::new(self.kern.table());
         }
     }
 
@@ -190,6 +193,7 @@ impl Clone for Face<'_> {
     fn clone(&self) -> Self {
         let mut copy = Face {
             prepared: None,
+            kern: KernLefts::of(self.kern.table()),
             ..*self
         };
         if self.prepared.is_some() {

@@ -115,7 +115,7 @@ impl ShapePlan {
         let is_scaled = &Cell::new(false);
         let settings = replacements.settings(self.rounds, buffer.flags());
         let kerning = Kerning {
-            table: face.kern,
+            lefts: &face.kern,
             mask: self.kern_mask,
             ignorables: settings.ignorables,
         };

@@ -2,7 +2,7 @@
 
 use crate::buffer::{Buffer, Direction, Tag};
 use crate::generated::opentype_face::bytes::{table_at, u16_at};
-use crate::generated::opentype_gpos::kern::kern;
+use crate::generated::opentype_gpos::kern_lefts::{KernLefts, kern_by_lefts};
 use crate::map::TableIndex;
 use crate::ot_shape_plan::{EnginePlan, FontFeatures};
 use crate::ot_shape_position::{
@@ -37,7 +37,7 @@ pub(super) fn positions_by_itself(shaper: Option<Shaper>) -> bool {
 
 /// The table of a font, and how a plan has it applied.
 pub(super) struct Kerning<'a> {
-    pub table: &'a [u8],
+    pub lefts: &'a KernLefts<'a>,
     pub mask: u32,
     pub ignorables: DefaultIgnorables,
 }
@@ -45,8 +45,9 @@ pub(super) struct Kerning<'a> {
 impl Kerning<'_> {
     /// Whether a subtable moves glyphs across their line.
     pub fn moves_across(&self) -> bool {
-        let mut rest = table_at(self.table, 4);
-        for _ in 0..u16_at(self.table, 2) {
+        let table = self.lefts.table();
+        let mut rest = table_at(table, 4);
+        for _ in 0..u16_at(table, 2) {
             let length = u16_at(rest, 2);
             if length < 6 {
                 return false;
@@ -62,10 +63,10 @@ impl Kerning<'_> {
     /// Moves pairs of glyphs by the table. What marks and ignorable glyphs got they lose again, since they
     /// lost their advances before this.
     pub fn apply(&self, plan: &EnginePlan, classes: &impl GlyphClasses, buffer: &mut Buffer) {
-        if self.mask == 0 || self.table.is_empty() {
+        if self.mask == 0 || self.lefts.table().is_empty() {
             return;
         }
-        kern(self.table, self.mask, buffer);
+        kern_by_lefts(self.lefts, self.mask, buffer);
         let zeroing = plan.shaper().map(Shaper::zero_width_marks);
         if zeroing.is_none_or(|zeroing| zeroing == ZeroWidthMarks::GDEF_LATE) {
             let is_forward = matches!(
