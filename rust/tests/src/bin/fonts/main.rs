@@ -5,9 +5,12 @@
 //!   what differs.
 //! - `fonts spoilt COUNT RANDOM FONT..`: that many fonts made of these with spoilt bytes, and that many files
 //!   of random bytes, are read and asked without a panic, each in 50 milliseconds.
+//! - `fonts shaped COUNT FONT..`: that many fonts made of these with spoilt bytes, each with a text of 1,000 of
+//!   its characters, which is shaped without a panic in a second, alike with the face prepared or not.
 #![forbid(unsafe_code)]
 
 mod beside;
+mod shaped;
 mod spoilt;
 
 use std::error::Error;
@@ -31,6 +34,9 @@ fn run(words: &[String]) -> Result<bool, Box<dyn Error>> {
         [name, count, random, fonts @ ..] if name == "spoilt" && !fonts.is_empty() => {
             spoilt::try_all(count.parse()?, random.parse()?, fonts, spoilt::MOST)
         }
-        _ => Err("usage: fonts beside FONT INDEX | fonts spoilt COUNT RANDOM FONT..".into()),
+        [name, count, fonts @ ..] if name == "shaped" && !fonts.is_empty() => {
+            shaped::try_all(count.parse()?, fonts, shaped::MOST)
+        }
+        _ => Err("usage: fonts beside FONT INDEX | fonts spoilt COUNT RANDOM FONT.. | fonts shaped COUNT FONT..".into()),
     }
 }

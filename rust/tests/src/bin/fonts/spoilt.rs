@@ -23,15 +23,15 @@ const SPOILT: usize = 40;
 const HEADER: usize = 400;
 
 /// A font's bytes, and where its tables are.
-struct Font {
-    path: String,
-    bytes: Vec<u8>,
+pub struct Font {
+    pub path: String,
+    pub bytes: Vec<u8>,
     directory: Range<usize>,
     tables: Vec<Range<usize>>,
 }
 
 impl Font {
-    fn read(path: &str) -> Result<Self, Box<dyn Error>> {
+    pub fn read(path: &str) -> Result<Self, Box<dyn Error>> {
         let bytes = fs::read(path).map_err(|error| format!("{path}: {error}"))?;
         let start = match bytes.get(..4) {
             Some(b"ttcf") => number(&bytes, 12),
@@ -56,7 +56,7 @@ impl Font {
     }
 
     /// Spoils 1 to 40 bytes, and returns what they were, in the order in which they were spoilt.
-    fn spoil(&mut self, numbers: &mut Numbers) -> Vec<(usize, u8)> {
+    pub fn spoil(&mut self, numbers: &mut Numbers) -> Vec<(usize, u8)> {
         let many = 1 + numbers.below(SPOILT);
         let mut before = vec![];
         while before.len() < many {
@@ -67,6 +67,13 @@ impl Font {
             }
         }
         before
+    }
+
+    /// Gives back the bytes that `spoil` changed.
+    pub fn mend(&mut self, before: Vec<(usize, u8)>) {
+        for (at, byte) in before.into_iter().rev() {
+            self.bytes[at] = byte;
+        }
     }
 
     /// A place, and the bytes that are written there.
@@ -115,20 +122,35 @@ fn number(bytes: &[u8], at: usize) -> usize {
 }
 
 /// What was tried so far, and how long a font may take.
-struct Tried {
+pub struct Tried {
     most: Duration,
-    parsed: usize,
-    failed: usize,
-    slowest: Duration,
+    pub parsed: usize,
+    pub failed: usize,
+    pub slowest: Duration,
 }
 
 impl Tried {
-    /// Reads a file and asks it; a panic, and one that takes too long each time, is printed and counted.
-    fn try_file(&mut self, bytes: &[u8], seed: u64, what: &str) {
+    pub fn new(most: Duration) -> Self {
+        Tried {
+            most,
+            parsed: 0,
+            failed: 0,
+            slowest: Duration::ZERO,
+        }
+    }
+
+    /// Asks a file, and counts it if it is a font. A panic, and one that takes too long each time, is
+    /// printed and counted.
+    pub fn try_file(
+        &mut self,
+        seed: u64,
+        what: &str,
+        ask: impl Fn() -> bool + std::panic::RefUnwindSafe,
+    ) {
         let (mut least, mut is_font) = (Duration::MAX, false);
         for _ in 0..AGAIN {
             let (began, spent) = (Instant::now(), processor_time());
-            let Ok(read) = catch_unwind(|| ask(bytes, seed)) else {
+            let Ok(read) = catch_unwind(&ask) else {
                 println!("FAILED: {what}, seed {seed}, panicked");
                 self.failed += 1;
                 return;
@@ -167,28 +189,18 @@ pub fn try_all(
 ) -> Result<bool, Box<dyn Error>> {
     let fonts: Result<Vec<Font>, _> = paths.iter().map(|path| Font::read(path)).collect();
     let mut fonts = fonts?;
-    let mut tried = Tried {
-        most,
-        parsed: 0,
-        failed: 0,
-        slowest: Duration::ZERO,
-    };
+    let mut tried = Tried::new(most);
     for seed in 0..count {
         let mut numbers = Numbers::new(seed);
         let font = numbers.below(fonts.len());
         let font = &mut fonts[font];
         let before = font.spoil(&mut numbers);
-        tried.try_file(&font.bytes, seed, &font.path);
-        for (at, byte) in before.into_iter().rev() {
-            font.bytes[at] = byte;
-        }
+        tried.try_file(seed, &font.path, || ask(&font.bytes, seed));
+        font.mend(before);
     }
     for seed in 0..random {
-        tried.try_file(
-            &random_file(&mut Numbers::new(seed), &fonts),
-            seed,
-            "random bytes",
-        );
+        let bytes = random_file(&mut Numbers::new(seed), &fonts);
+        tried.try_file(seed, "random bytes", || ask(&bytes, seed));
     }
     println!(
         "{} files of {} fonts and {random} of random bytes: {} are fonts, the slowest took {:?}, {} failed",
