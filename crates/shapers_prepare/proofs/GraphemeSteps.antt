@@ -46,15 +46,15 @@ last_grapheme s i now all met same =
     ap (graphemes_from s i) (drop_all i (continuations all) (omega (arith, ap length same, length-map now f, met)))
 
 -- merges and flags keep what carries on a grapheme
-pub continuations-merged : (level : BufferClusterLevel) (s e : ℕ) (run next : ClusterRange)
-    (now new : Glyphs) → run.start ≤ run.end → next.start ≤ next.end
-    → with_range next new ≡ merge level s e (with_range run now) → continuations new ≡ continuations now
-continuations-merged level s e run next now new fits fits_next is =
+pub continuations-merged : (level : BufferClusterLevel) (s e : ℕ) (pending next : ClusterRange)
+    (now new : Glyphs) → pending.start ≤ pending.end → next.start ≤ next.end
+    → with_range next new ≡ merge level s e (with_range pending now) → continuations new ≡ continuations now
+continuations-merged level s e pending next now new fits fits_next is =
     let f : Glyph → Bool = λ g. is_continuation g.unicode_props in
     sym (map-with_range f (λ g. refl) next new fits_next)
     ∙ ap (map f) is
-    ∙ map-merge_all f (λ g. refl) level ((s, e) ∷ []) (with_range run now)
-    ∙ map-with_range f (λ g. refl) run now fits
+    ∙ map-merge_all f (λ g. refl) level ((s, e) ∷ []) (with_range pending now)
+    ∙ map-with_range f (λ g. refl) pending now fits
 
 pub continuations-flagged : (s e : ℕ) (gs : Glyphs) → s ≤ e → continuations (unsafe_inside s e gs)
     ≡ continuations gs

@@ -14,10 +14,10 @@ use Rattle.shapers_stretch.proofs.Parts.{parts-append}
 -- a list as what stands before its last sequence, and that sequence
 pub record RunSplit {X : Type 0} (test : X → Bool) (xs : List X) : Type 0 where
   pub front : List X
-  pub run : List X
-  pub whole : xs ≡ front ++ run
+  pub sequence : List X
+  pub whole : xs ≡ front ++ sequence
   pub stops : suffix_len test front ≡ 0
-  pub passes : list_all test run ≡ true
+  pub passes : list_all test sequence ≡ true
 
 pub run_split : {X : Type 0} (test : X → Bool) (xs : List X) → RunSplit test xs
 run_split {X} test xs =
@@ -26,14 +26,14 @@ run_split {X} test xs =
       | true ↦ search (arith, append_assoc, list_all-append)
       | false ↦ λ h r. record {
         front = xs ++ x ∷ [];
-        run =
+        sequence =
             [];
         whole = sym (append-nil (xs ++ x ∷ []));
         stops = suffix_len_no test xs x h;
         passes = refl;
       }
     ] in
-    from_end (RunSplit test) (record { front = []; run = []; whole = refl; stops = refl; passes = refl })
+    from_end (RunSplit test) (record { front = []; sequence = []; whole = refl; stops = refl; passes = refl })
     (λ xs x r. one xs x (test x) refl r) xs
 
 -- a list that ends with no sequence ends with an element that fails, or is empty
@@ -50,31 +50,31 @@ all_before test xs x h =
     let both = and_parts (list_all test xs) (list_all test (x ∷ [])) (search (arith, list_all-append)) in
     search arith
 
-all_counts : {X : Type 0} (test : X → Bool) (run : List X) → list_all test run ≡ true → suffix_len test run ≡ length run
-all_counts {X} test run =
-    let P : List X → Type 0 = λ run. list_all test run ≡ true → suffix_len test run ≡ length run in
+all_counts : {X : Type 0} (test : X → Bool) (sequence : List X) → list_all test sequence ≡ true → suffix_len test sequence ≡ length sequence
+all_counts {X} test sequence =
+    let P : List X → Type 0 = λ sequence. list_all test sequence ≡ true → suffix_len test sequence ≡ length sequence in
     from_end P (λ h. refl)
-    (λ xs x f h. let both = all_before test xs x h in search (arith, suffix_len_yes, length_push)) run
+    (λ xs x f h. let both = all_before test xs x h in search (arith, suffix_len_yes, length_push)) sequence
 
 -- so a sequence behind such a list is its last sequence
-pub counts_after : {X : Type 0} (test : X → Bool) (front run : List X) → suffix_len test front ≡ 0
-    → list_all test run ≡ true → suffix_len test (front ++ run) ≡ length run
-counts_after test front run stops passes =
+pub counts_after : {X : Type 0} (test : X → Bool) (front sequence : List X) → suffix_len test front ≡ 0
+    → list_all test sequence ≡ true → suffix_len test (front ++ sequence) ≡ length sequence
+counts_after test front sequence stops passes =
     elim (last_of front) [
       | inl none ↦ search (arith, all_counts)
       | inr p ↦
           search (arith, append_assoc, suffix_len_stop, last_fails, all_counts)
     ]
 
-pub last_run_after : {X : Type 0} (test : X → Bool) (front run : List X) → suffix_len test front ≡ 0
-    → list_all test run ≡ true → (last_stretch test (front ++ run) ≡ run) × (before_last_stretch test (front ++ run) ≡ front)
-last_run_after test front run stops passes =
+pub last_run_after : {X : Type 0} (test : X → Bool) (front sequence : List X) → suffix_len test front ≡ 0
+    → list_all test sequence ≡ true → (last_stretch test (front ++ sequence) ≡ sequence) × (before_last_stretch test (front ++ sequence) ≡ front)
+last_run_after test front sequence stops passes =
     search (
       arith,
-      length-append front run,
-      counts_after test front run stops passes,
-      drop-append_seam front run,
-      take-append_seam front run,
+      length-append front sequence,
+      counts_after test front sequence stops passes,
+      drop-append_seam front sequence,
+      take-append_seam front sequence,
     )
 
 -- what stands before doesn't matter where a list ends with no sequence
@@ -204,9 +204,9 @@ pub last_part_of : (cs : List Cell) → 0 < length cs → LastPartOf cs
 last_part_of cs some =
     let r = runs_of cs in
     let front = r.before.front in
-    let before = r.before.run in
-    let word = r.word.run in
-    let tiles = r.tiles.run in
+    let before = r.before.sequence in
+    let word = r.word.sequence in
+    let tiles = r.tiles.sequence in
     let upto = r.word.whole ∙ ap (λ f. f ++ word) r.before.whole ∙ append_assoc front before word in
     let whole = r.tiles.whole ∙ ap (λ f. f ++ tiles) upto ∙ append_assoc front (before ++ word) tiles in
     let others = list_all-append other before word

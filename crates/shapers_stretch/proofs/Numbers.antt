@@ -206,8 +206,8 @@ pub same_run : (w v f h r s : ℤ) (n m : ℕ) → w ≡ v → f ≡ h → r ≡
     → ◌≡◌ {A = TileSequence} (record { word = w; fixed = f; repeating = r; repeaters = n })
     (record { word = v; fixed = h; repeating = s; repeaters = m })
 same_run w v f h r s n m a b c d =
-    let run : ℤ → ℤ → ℤ → ℕ → TileSequence = λ w f r n. record { word = w; fixed = f; repeating = r; repeaters = n } in
-    ap (λ w. run w f r n) a ∙ ap (λ f. run v f r n) b ∙ ap (λ r. run v h r n) c ∙ ap (run v h s) d
+    let sequence : ℤ → ℤ → ℤ → ℕ → TileSequence = λ w f r n. record { word = w; fixed = f; repeating = r; repeaters = n } in
+    ap (λ w. sequence w f r n) a ∙ ap (λ f. sequence v f r n) b ∙ ap (λ r. sequence v h r n) c ∙ ap (sequence v h s) d
 
 pub numbers_apart : (choice : StretchStart) (z : TileSequence) → list_all fits_i32 (z.word ∷ z.fixed ∷ z.repeating ∷ left z ∷ [])
     ≡ false → list_all fits_i32 (numbers_to_fit choice z) ≡ false

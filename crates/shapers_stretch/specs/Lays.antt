@@ -19,7 +19,7 @@ pub record SequenceFits (z : TileSequence) : Type 0 where
 abbrev pub MeasuresSequence : TileSequence → Option TileSequence → Type 0
 MeasuresSequence z None =
     list_all fits_i32 (z.word ∷ z.fixed ∷ z.repeating ∷ left z ∷ []) ≡ false
-MeasuresSequence z (Some run) = run ≡ z
+MeasuresSequence z (Some sequence) = sequence ≡ z
 
 abbrev pub lay_of : StretchStart → Bool → TileSequence → Lay
 lay_of choice right_to_left z =

@@ -54,17 +54,17 @@ pub(super) fn merge_graphemes_in(level: BufferClusterLevel, glyphs: &mut [hb_gly
     if glyphs.is_empty() {
         return;
     }
-    let mut run = ClusterRange::NONE;
+    let mut pending = ClusterRange::NONE;
     let mut start = 0;
     for i in 1..glyphs.len() {
         if !glyphs[i].unicode_props.is_continuation() {
-            run = merge_range_in(level, glyphs, run, start, i);
+            pending = merge_range_in(level, glyphs, pending, start, i);
             start = i;
         }
     }
     let end = glyphs.len();
-    run = merge_range_in(level, glyphs, run, start, end);
-    write_range_in(glyphs, run);
+    pending = merge_range_in(level, glyphs, pending, start, end);
+    write_range_in(glyphs, pending);
 }
 
 // Flags each grapheme unsafe to break inside.

@@ -94,10 +94,10 @@ fn count_sequence<F: hb_font_t>(
         result ≡ sequence_added choice right_to_left (F.font font.now) z tiles.now }
     ensures bound { MatchOption result (0 ≤ 0) (λ n. n < 2 ^ 31) }
 {
-    let run = measure(font, word, tiles)?;
-    let lay = lay_of(choice, right_to_left, run)?;
+    let sequence = measure(font, word, tiles)?;
+    let lay = lay_of(choice, right_to_left, sequence)?;
     if offsets_fit(font, right_to_left, lay, tiles) {
-        Some(lay.added * run.repeaters)
+        Some(lay.added * sequence.repeaters)
     } else {
         None
     }

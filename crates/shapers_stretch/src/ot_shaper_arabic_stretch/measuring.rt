@@ -111,10 +111,10 @@ fn measure_long<F: hb_font_t>(
     let mut repeating = 0;
     let mut repeaters = 0;
     for piece in tiles.chunks(SHORT) {
-        let run = measure_short(font, &[], piece);
-        fixed += i128::from(run.fixed);
-        repeating += i128::from(run.repeating);
-        repeaters += run.repeaters;
+        let measured = measure_short(font, &[], piece);
+        fixed += i128::from(measured.fixed);
+        repeating += i128::from(measured.repeating);
+        repeaters += measured.repeaters;
     }
     Some(TileSequence {
         word: narrowed(word)?,
@@ -178,24 +178,28 @@ pub(super) fn lay_of_sequence<F: hb_font_t>(
     ensures { let z = measured (F.font font.now) word.now tiles.now in
         result ≡ lay_if_fits choice right_to_left z }
 {
-    let run = measure(font, word, tiles)?;
-    lay_of(choice, right_to_left, run)
+    let sequence = measure(font, word, tiles)?;
+    lay_of(choice, right_to_left, sequence)
 }
 
 /// How a sequence is laid, unless one of its numbers doesn't fit 32 bits.
 #[inline]
-pub(super) fn lay_of(choice: StretchStart, right_to_left: bool, run: TileSequence) -> Option<Lay>
-    ensures { result ≡ lay_if_fits choice right_to_left run }
+pub(super) fn lay_of(
+    choice: StretchStart,
+    right_to_left: bool,
+    sequence: TileSequence,
+) -> Option<Lay>
+    ensures { result ≡ lay_if_fits choice right_to_left sequence }
 {
-    if !sequence_fits(run) {
+    if !sequence_fits(sequence) {
         return None;
     }
-    let rounds = rounds_of(run);
-    if !added_fits(run, rounds.added) {
+    let rounds = rounds_of(sequence);
+    if !added_fits(sequence, rounds.added) {
         return None;
     }
-    let overlap = overlap(run, rounds);
-    let start = start(choice, right_to_left, run, rounds, overlap)?;
+    let overlap = overlap(sequence, rounds);
+    let start = start(choice, right_to_left, sequence, rounds, overlap)?;
     Some(Lay {
         added: rounds.added,
         overlap,
@@ -205,28 +209,28 @@ pub(super) fn lay_of(choice: StretchStart, right_to_left: bool, run: TileSequenc
 
 // Whether what a sequence measures fits 32 bits, and what its fixed tiles leave of the word.
 #[inline]
-fn sequence_fits(run: TileSequence) -> bool
-    ensures value { result ≡ list_all fits_i32 (run.word ∷ run.fixed ∷ run.repeating
-        ∷ left run ∷ []) }
-    ensures fits { IsTrue result → SequenceFits run }
+fn sequence_fits(sequence: TileSequence) -> bool
+    ensures value { result ≡ list_all fits_i32 (sequence.word ∷ sequence.fixed ∷ sequence.repeating
+        ∷ left sequence ∷ []) }
+    ensures fits { IsTrue result → SequenceFits sequence }
 {
-    fits_i32(run.word)
-        && fits_i32(run.fixed)
-        && fits_i32(run.repeating)
-        && fits_i32(run.word - run.fixed)
+    fits_i32(sequence.word)
+        && fits_i32(sequence.fixed)
+        && fits_i32(sequence.repeating)
+        && fits_i32(sequence.word - sequence.fixed)
 }
 
 // How many times more the repeating tiles of a sequence fit into what is left.
 #[tactic(auto, using(crate::proofs::Numbers::fit_yes, crate::proofs::Numbers::fit_room, crate::proofs::Numbers::fit_width))]
 #[inline]
-fn fitting(run: TileSequence) -> usize
-    requires { SequenceFits run }
-    ensures value { result ≡ fitting run }
+fn fitting(sequence: TileSequence) -> usize
+    requires { SequenceFits sequence }
+    ensures value { result ≡ fitting sequence }
     ensures bound { result < 2 ^ 31 }
 {
-    let left = left_of(run);
-    if run.repeating < left && 0 < run.repeating {
-        times_more(run, left)
+    let left = left_of(sequence);
+    if sequence.repeating < left && 0 < sequence.repeating {
+        times_more(sequence, left)
     } else {
         0
     }
@@ -235,14 +239,14 @@ fn fitting(run: TileSequence) -> usize
 // The same where they do fit.
 #[tactic(auto, using(crate::proofs::Numbers::quotient_abs))]
 #[inline]
-fn times_more(run: TileSequence, left: i64) -> usize
+fn times_more(sequence: TileSequence, left: i64) -> usize
     requires fits { FitsSigned w32 left }
-    requires some { pos 0 <ℤ run.repeating }
-    requires room { run.repeating <ℤ left }
-    ensures value { result ≡ nat_abs (int_div left run.repeating) - 1 }
+    requires some { pos 0 <ℤ sequence.repeating }
+    requires room { sequence.repeating <ℤ left }
+    ensures value { result ≡ nat_abs (int_div left sequence.repeating) - 1 }
     ensures bound { result < 2 ^ 31 }
 {
-    (left.unsigned_abs() / run.repeating.unsigned_abs()) as usize - 1
+    (left.unsigned_abs() / sequence.repeating.unsigned_abs()) as usize - 1
 }
 
 // How often the repeating tiles are laid besides once, and whether these copies overlap.
@@ -254,15 +258,15 @@ struct Rounds {
 
 // How many times more they are laid, and whether that is so much that the copies overlap.
 #[inline]
-fn rounds_of(run: TileSequence) -> Rounds
-    requires { SequenceFits run }
-    ensures added { result.added ≡ times_added run }
+fn rounds_of(sequence: TileSequence) -> Rounds
+    requires { SequenceFits sequence }
+    ensures added { result.added ≡ times_added sequence }
     ensures bound { result.added ≤ 2 ^ 31 }
-    ensures squeezes { result.squeezes ≡ squeezes run }
+    ensures squeezes { result.squeezes ≡ squeezes sequence }
 {
-    let fitting = fitting(run);
-    let left = run.word - run.fixed;
-    if left <= tiles_reach(run, fitting) || run.repeaters == 0 {
+    let fitting = fitting(sequence);
+    let left = sequence.word - sequence.fixed;
+    if left <= tiles_reach(sequence, fitting) || sequence.repeaters == 0 {
         return Rounds {
             added: fitting,
             squeezes: false,
@@ -271,78 +275,81 @@ fn rounds_of(run: TileSequence) -> Rounds
     let added = fitting + 1;
     Rounds {
         added,
-        squeezes: 0 < excess(run, added),
+        squeezes: 0 < excess(sequence, added),
     }
 }
 
 // How far the repeating tiles reach, laid once and these times more.
 #[inline]
-fn tiles_reach(run: TileSequence, added: usize) -> i64
-    requires fits { SequenceFits run }
+fn tiles_reach(sequence: TileSequence, added: usize) -> i64
+    requires fits { SequenceFits sequence }
     requires bound { added ≤ 2 ^ 31 }
-    ensures value { result ≡ tiles_reach run added }
+    ensures value { result ≡ tiles_reach sequence added }
     ensures low { negsuc (3 * 2 ^ 61) ≤ℤ result }
     ensures high { result ≤ℤ pos (3 * 2 ^ 61) }
 {
-    (added as i64 + 1) * run.repeating
+    (added as i64 + 1) * sequence.repeating
 }
 
 // How far they then reach too far.
 #[inline]
-fn excess(run: TileSequence, added: usize) -> i64
-    requires fits { SequenceFits run }
+fn excess(sequence: TileSequence, added: usize) -> i64
+    requires fits { SequenceFits sequence }
     requires bound { added ≤ 2 ^ 31 }
-    ensures { result ≡ tiles_reach run added -ℤ left run }
+    ensures { result ≡ tiles_reach sequence added -ℤ left sequence }
 {
-    tiles_reach(run, added) - (run.word - run.fixed)
+    tiles_reach(sequence, added) - (sequence.word - sequence.fixed)
 }
 
 // How many copies that makes.
 #[inline]
-fn copies(run: TileSequence, added: usize) -> i64
-    requires { added * run.repeaters < 2 ^ 31 }
-    ensures { result ≡ pos (added * run.repeaters) }
+fn copies(sequence: TileSequence, added: usize) -> i64
+    requires { added * sequence.repeaters < 2 ^ 31 }
+    ensures { result ≡ pos (added * sequence.repeaters) }
 {
-    (added * run.repeaters) as i64
+    (added * sequence.repeaters) as i64
 }
 
 // Whether these numbers fit 32 bits.
 #[inline]
-fn added_fits(run: TileSequence, added: usize) -> bool
-    requires fits { SequenceFits run }
+fn added_fits(sequence: TileSequence, added: usize) -> bool
+    requires fits { SequenceFits sequence }
     requires bound { added ≤ 2 ^ 31 }
-    ensures value { result ≡ list_all fits_i32 (tiles_reach run added ∷ pos (added * run.repeaters)
+    ensures value { result ≡ list_all fits_i32 (tiles_reach sequence added ∷ pos (added * sequence.repeaters)
         ∷ []) }
-    ensures tiles_reach { IsTrue result → FitsSigned w32 (tiles_reach run added) }
+    ensures tiles_reach { IsTrue result → FitsSigned w32 (tiles_reach sequence added) }
 {
-    fits_i32(tiles_reach(run, added)) && few_copies(run, added)
+    fits_i32(tiles_reach(sequence, added)) && few_copies(sequence, added)
 }
 
 // Whether the number of copies that this makes fits 32 bits.
 #[inline]
-fn few_copies(run: TileSequence, added: usize) -> bool
-    ensures { result ≡ fits_i32 (pos (added * run.repeaters)) }
+fn few_copies(sequence: TileSequence, added: usize) -> bool
+    ensures { result ≡ fits_i32 (pos (added * sequence.repeaters)) }
 {
-    added as u128 * (run.repeaters as u128) < 0x8000_0000
+    added as u128 * (sequence.repeaters as u128) < 0x8000_0000
 }
 
 // By how much each added copy overlaps the one before it.
 #[inline]
-fn overlap(run: TileSequence, rounds: Rounds) -> i64
-    requires fits { SequenceFits run }
+fn overlap(sequence: TileSequence, rounds: Rounds) -> i64
+    requires fits { SequenceFits sequence }
     requires bound { rounds.added ≤ 2 ^ 31 }
-    requires added { rounds.added ≡ times_added run }
-    requires squeezes { rounds.squeezes ≡ squeezes run }
-    requires tiles_reach { FitsSigned w32 (tiles_reach run rounds.added) }
-    requires copies { rounds.added * run.repeaters < 2 ^ 31 }
-    ensures value { result ≡ overlap run }
+    requires added { rounds.added ≡ times_added sequence }
+    requires squeezes { rounds.squeezes ≡ squeezes sequence }
+    requires tiles_reach { FitsSigned w32 (tiles_reach sequence rounds.added) }
+    requires copies { rounds.added * sequence.repeaters < 2 ^ 31 }
+    ensures value { result ≡ overlap sequence }
     ensures low { pos 0 ≤ℤ result }
     ensures high { result <ℤ pos (2 ^ 34) }
 {
     if !rounds.squeezes {
         return 0;
     }
-    quotient(excess(run, rounds.added), copies(run, rounds.added))
+    quotient(
+        excess(sequence, rounds.added),
+        copies(sequence, rounds.added),
+    )
 }
 
 // Where the first tile begins, unless a number of the choice doesn't fit 32 bits.
@@ -350,65 +357,70 @@ fn overlap(run: TileSequence, rounds: Rounds) -> i64
 fn start(
     choice: StretchStart,
     right_to_left: bool,
-    run: TileSequence,
+    sequence: TileSequence,
     rounds: Rounds,
     shared: i64,
 ) -> Option<i64>
-    requires fits { SequenceFits run }
-    requires added { rounds.added ≡ times_added run }
-    requires squeezes { rounds.squeezes ≡ squeezes run }
+    requires fits { SequenceFits sequence }
+    requires added { rounds.added ≡ times_added sequence }
+    requires squeezes { rounds.squeezes ≡ squeezes sequence }
     requires bound { rounds.added ≤ 2 ^ 31 }
-    requires tiles_reach { FitsSigned w32 (tiles_reach run rounds.added) }
-    requires copies { rounds.added * run.repeaters < 2 ^ 31 }
-    requires overlap { shared ≡ overlap run }
+    requires tiles_reach { FitsSigned w32 (tiles_reach sequence rounds.added) }
+    requires copies { rounds.added * sequence.repeaters < 2 ^ 31 }
+    requires overlap { shared ≡ overlap sequence }
     requires low { pos 0 ≤ℤ shared }
     requires high { shared <ℤ pos (2 ^ 34) }
-    ensures { result ≡ start_if_fits choice right_to_left run }
+    ensures { result ≡ start_if_fits choice right_to_left sequence }
 {
     match choice {
-        StretchStart::AsCode => Some(start_as_code(run, rounds.squeezes)),
-        StretchStart::Centred => centred_start(right_to_left, run, rounds.added, shared),
+        StretchStart::AsCode => Some(start_as_code(sequence, rounds.squeezes)),
+        StretchStart::Centred => centred_start(right_to_left, sequence, rounds.added, shared),
     }
 }
 
 // The first choice of a start.
 #[inline]
-fn start_as_code(run: TileSequence, shares: bool) -> i64
-    requires fits { SequenceFits run }
-    requires squeezes { shares ≡ squeezes run }
-    ensures { result ≡ start StretchStart.AsCode false run }
+fn start_as_code(sequence: TileSequence, shares: bool) -> i64
+    requires fits { SequenceFits sequence }
+    requires squeezes { shares ≡ squeezes sequence }
+    ensures { result ≡ start StretchStart.AsCode false sequence }
 {
-    if shares { 0 } else { half(left_of(run)) }
+    if shares { 0 } else { half(left_of(sequence)) }
 }
 
 // What the fixed tiles leave of the word.
 #[inline]
-fn left_of(run: TileSequence) -> i64
-    requires fits { SequenceFits run }
-    ensures { result ≡ left run }
+fn left_of(sequence: TileSequence) -> i64
+    requires fits { SequenceFits sequence }
+    ensures { result ≡ left sequence }
 {
-    run.word - run.fixed
+    sequence.word - sequence.fixed
 }
 
 // The second choice: what is laid is centred on the word, unless its width, or the word less that
 // width, doesn't fit 32 bits.
 #[inline]
-fn centred_start(right_to_left: bool, run: TileSequence, times: usize, shared: i64) -> Option<i64>
-    requires fits { SequenceFits run }
-    requires added { times ≡ times_added run }
+fn centred_start(
+    right_to_left: bool,
+    sequence: TileSequence,
+    times: usize,
+    shared: i64,
+) -> Option<i64>
+    requires fits { SequenceFits sequence }
+    requires added { times ≡ times_added sequence }
     requires bound { times ≤ 2 ^ 31 }
-    requires tiles_reach { FitsSigned w32 (tiles_reach run times) }
-    requires copies { times * run.repeaters < 2 ^ 31 }
-    requires overlap { shared ≡ overlap run }
+    requires tiles_reach { FitsSigned w32 (tiles_reach sequence times) }
+    requires copies { times * sequence.repeaters < 2 ^ 31 }
+    requires overlap { shared ≡ overlap sequence }
     requires low { pos 0 ≤ℤ shared }
     requires high { shared <ℤ pos (2 ^ 34) }
-    ensures { result ≡ start_if_fits StretchStart.Centred right_to_left run }
+    ensures { result ≡ start_if_fits StretchStart.Centred right_to_left sequence }
 {
-    let width = width_of_laid(run, times, shared);
+    let width = width_of_laid(sequence, times, shared);
     if !fits_i32(width) {
         return None;
     }
-    let gap = gap(run, width);
+    let gap = gap(sequence, width);
     if !fits_i32(gap) {
         return None;
     }
@@ -417,12 +429,12 @@ fn centred_start(right_to_left: bool, run: TileSequence, times: usize, shared: i
 
 // How much wider the word is than what is laid.
 #[inline]
-fn gap(run: TileSequence, width: i64) -> i64
-    requires word { SequenceFits run }
+fn gap(sequence: TileSequence, width: i64) -> i64
+    requires word { SequenceFits sequence }
     requires width { FitsSigned w32 width }
-    ensures { result ≡ run.word -ℤ width }
+    ensures { result ≡ sequence.word -ℤ width }
 {
-    run.word - width
+    sequence.word - width
 }
 
 // Half of a number.
@@ -446,20 +458,20 @@ fn along(right_to_left: bool, x: i64) -> i64
 
 // The width that is laid.
 #[inline]
-fn width_of_laid(run: TileSequence, times: usize, shared: i64) -> i64
-    requires fits { SequenceFits run }
-    requires added { times ≡ times_added run }
+fn width_of_laid(sequence: TileSequence, times: usize, shared: i64) -> i64
+    requires fits { SequenceFits sequence }
+    requires added { times ≡ times_added sequence }
     requires bound { times ≤ 2 ^ 31 }
-    requires tiles_reach { FitsSigned w32 (tiles_reach run times) }
-    requires copies { times * run.repeaters < 2 ^ 31 }
-    requires overlap { shared ≡ overlap run }
+    requires tiles_reach { FitsSigned w32 (tiles_reach sequence times) }
+    requires copies { times * sequence.repeaters < 2 ^ 31 }
+    requires overlap { shared ≡ overlap sequence }
     requires low { pos 0 ≤ℤ shared }
     requires high { shared <ℤ pos (2 ^ 34) }
-    ensures value { result ≡ laid_width run }
+    ensures value { result ≡ laid_width sequence }
     ensures low { negsuc (2 ^ 36) <ℤ result }
     ensures high { result <ℤ pos (2 ^ 36) }
 {
-    run.fixed + tiles_reach(run, times) - shared_by(copies(run, times), shared)
+    sequence.fixed + tiles_reach(sequence, times) - shared_by(copies(sequence, times), shared)
 }
 
 // What so many copies overlap together.

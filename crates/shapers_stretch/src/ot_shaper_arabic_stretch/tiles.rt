@@ -116,7 +116,7 @@ impl<'a, F: hb_font_t> TileLaying<'a, F> {
         unlaid: Unlaid,
     ) -> usize
         requires word { part.word ≤ part.tiles }
-        requires run { let how =
+        requires sequence { let how =
             laying_by (F.font self.now.font.now) self.now.choice self.now.right_to_left in
             let old = zip glyphs.old positions.old in
             let word = stretch_of part.word part.tiles old in
@@ -135,8 +135,8 @@ impl<'a, F: hb_font_t> TileLaying<'a, F> {
             let word = stretch_of part.word part.tiles old in
             let tiles = stretch_of part.tiles unlaid.end old in
             let z = measured how.font (positions_of word) (glyphs_of tiles) in
-            let run = drop (length word) (unbroken (word ++ tiles)) in
-            drop result (zip glyphs.new positions.new) ≡ reverse (laid_sequence how z run)
+            let sequence = drop (length word) (unbroken (word ++ tiles)) in
+            drop result (zip glyphs.new positions.new) ≡ reverse (laid_sequence how z sequence)
             ++ drop unlaid.place old }
         ensures place { let old = zip glyphs.old positions.old in
             let word = stretch_of part.word part.tiles old in
@@ -161,7 +161,7 @@ impl<'a, F: hb_font_t> TileLaying<'a, F> {
                 let tiles = part.tiles..unlaid.end;
                 self.lay_tiles(lay, glyphs, positions, tiles, pen).place
             }
-            None => unreachable!("a run whose copies were counted has no lay"),
+            None => unreachable!("a sequence whose copies were counted has no lay"),
         }
     }
 

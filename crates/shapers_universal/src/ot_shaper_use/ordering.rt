@@ -212,15 +212,15 @@ fn merge_fronts(buffer: &mut hb_buffer_t, start: usize, behind: usize, end: usiz
 {
     // where the piece starts, and what has merged but isn't written
     let mut front = start;
-    let mut run = ClusterRange::NONE;
+    let mut pending = ClusterRange::NONE;
     for i in behind..end {
         if goes_front(&buffer.glyphs()[i]) {
-            run = buffer.merge_range(run, front, i + 1);
+            pending = buffer.merge_range(pending, front, i + 1);
         } else if is_halant(&buffer.glyphs()[i]) {
             front = i + 1;
         }
     }
-    buffer.write_range(run);
+    buffer.write_range(pending);
 }
 
 // Lists the order of the syllable from `start` to `end`, of which the reph and what it passes end
@@ -303,8 +303,8 @@ fn list_reph(buffer: &mut hb_buffer_t, start: usize, behind: usize, at: usize) -
     requires in_order { start ≤ behind }
     requires in_range { at + (behind - start) ≤ length buffer.old.glyphs }
     requires fits { at + (behind - start) < 2 ^ 64 }
-    ensures listed { let run = first_last (range_with_len start (behind - start)) in
-        buffer.new ≡ record buffer.old { places = with_listed at run buffer.old.places } }
+    ensures listed { let stretch = first_last (range_with_len start (behind - start)) in
+        buffer.new ≡ record buffer.old { places = with_listed at stretch buffer.old.places } }
     ensures behind { result ≡ at + (behind - start) }
 {
     if start == behind {

@@ -1,4 +1,4 @@
--- The graphemes before the one that starts there are merged, but for a run that isn't written yet.
+-- The graphemes before the one that starts there are merged, but for a range that isn't written yet.
 use Rattle.std.proofs.Common.{◌≡◌, ◌<◌, drop}
 use Rattle.shapers_buffer.specs.Clusters.{merge_all}
 use Rattle.shapers_buffer.specs.ClusterRanges.{RangeFits, with_range}
@@ -9,9 +9,9 @@ abbrev pub invariant-loop-i : goal.invariant-loop-i
 invariant-loop-i l =
     let all = l.initial.glyphs in
     record {
-      fits : RangeFits l.run l.glyphs;
+      fits : RangeFits l.pending l.glyphs;
       in_order : l.start < l.i;
       same : continuations l.glyphs ≡ continuations all;
-      merged : merge_all l.level (graphemes_from l.start l.i (drop l.i (continuations all))) (with_range l.run l.glyphs)
+      merged : merge_all l.level (graphemes_from l.start l.i (drop l.i (continuations all))) (with_range l.pending l.glyphs)
           ≡ merge_all l.level (graphemes all) all;
     }

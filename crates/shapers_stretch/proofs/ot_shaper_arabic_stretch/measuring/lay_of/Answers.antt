@@ -58,14 +58,14 @@ start-requires-clause-copies = search (arith, few)
 
 pub returns : goal.returns
 returns c =
-    let second : list_all fits_i32 (tiles_reach c.args.run (times_added c.args.run) ∷ pos (copies_added c.args.run) ∷ []) ≡
-    true = ap (λ n. list_all fits_i32 (tiles_reach c.args.run n ∷ pos (n * c.args.run.repeaters) ∷ []))
+    let second : list_all fits_i32 (tiles_reach c.args.sequence (times_added c.args.sequence) ∷ pos (copies_added c.args.sequence) ∷ []) ≡
+    true = ap (λ n. list_all fits_i32 (tiles_reach c.args.sequence n ∷ pos (n * c.args.sequence.repeaters) ∷ []))
     (sym c.rounds_of-rounds.ensures.added) ∙ (sym c.if-not-added_fits.ensures.value)
     in
     cc (
       to_z-of_z w64 c.overlap-overlap.result (record { sfits = c.overlap-overlap.type_inv }),
       to_z-of_z w64 c.in_ok-start.start (search rules),
-      lay_found c.args.choice c.args.right_to_left c.args.run c.in_ok-start.start
+      lay_found c.args.choice c.args.right_to_left c.args.sequence c.in_ok-start.start
           (sym c.if-not-sequence_fits.ensures.value) second (sym c.start.ensures ∙ c.in_ok-start.was),
     )
 

@@ -15,9 +15,9 @@ use Rattle.shapers_stretch.proofs.ot_shaper_arabic_stretch.measuring.measure_lon
 pub overflow_add-repeaters : goal.overflow_add-repeaters
 overflow_add-repeaters g c =
     let counted = kept_piece_counted repeats _ (chunks_rest c.loop-piece.piece-iterator) c.in-Some.piece.now
-    (chunks_rest c.next.new.self) c.loop-piece.repeaters c.measure_short-run.result.repeaters
+    (chunks_rest c.next.new.self) c.loop-piece.repeaters c.measure_short-measured.result.repeaters
     c.in-Some.ensures.steps.1.0 c.loop-piece.invariant.7
-    (ap (λ (z : TileSequence). z.repeaters) c.measure_short-run.ensures) in
+    (ap (λ (z : TileSequence). z.repeaters) c.measure_short-measured.ensures) in
     let few : length (repeating c.args.tiles.now) ≤ length c.args.tiles.now = search length_kept in
     let fits : length c.args.tiles.now ≤ 18446744073709551615 = omega arith in
     omega arith
@@ -31,7 +31,7 @@ loop-piece-preserved g c =
     let old = chunks_rest c.loop-piece.piece-iterator in
     let piece = c.in-Some.piece.now in
     let rest = chunks_rest c.next.new.self in
-    let part = c.measure_short-run.result in
+    let part = c.measure_short-measured.result in
     let first = to_z w128 c.loop-piece.fixed-bits in
     let second = to_z w128 c.loop-piece.repeating-bits in
     let more = c.from.result in
@@ -40,7 +40,7 @@ loop-piece-preserved g c =
     let fits_part_2 : FitsSigned w64 part.repeating = search rules in
     let short = c.from.ensures ∙ to_z-of_z w64 part.fixed fits_part in
     let short_2 = c.from-in-loop-piece.ensures ∙ to_z-of_z w64 part.repeating fits_part_2 in
-    let is = c.measure_short-run.ensures in
+    let is = c.measure_short-measured.ensures in
     let less : length rest < length old =
     omega (arith, ap length steps.1.0 ∙ length-append piece rest) in
     let most : all ≤ 18446744073709551615 = omega arith in

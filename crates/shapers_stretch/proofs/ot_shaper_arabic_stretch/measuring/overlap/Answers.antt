@@ -6,8 +6,8 @@ use Rattle.shapers_stretch.proofs.ot_shaper_arabic_stretch.measuring.overlap.Goa
 
 pub quotient-requires : goal.quotient-requires
 quotient-requires c =
-    let some = squeezed_some c.args.run (grind arith) in
-    let many : c.args.rounds.added * c.args.run.repeaters ≡ copies_added c.args.run =
+    let some = squeezed_some c.args.sequence (grind arith) in
+    let many : c.args.rounds.added * c.args.sequence.repeaters ≡ copies_added c.args.sequence =
     search arith in
     omega (arith, ints)
 
@@ -16,10 +16,10 @@ returns-clause-value = search (arith, to_z-of_z)
 
 pub returns-clause-low : goal.returns-clause-low
 returns-clause-low c =
-    let bounds = overlap_bounds c.args.run (grind arith) in omega (arith, ints, returns-clause-value c)
+    let bounds = overlap_bounds c.args.sequence (grind arith) in omega (arith, ints, returns-clause-value c)
 
 pub returns-clause-high : goal.returns-clause-high
 returns-clause-high c =
-    let bounds = overlap_bounds c.args.run (grind arith) in
-    let over : c.excess.result ≡ excess c.args.run = search arith in
+    let bounds = overlap_bounds c.args.sequence (grind arith) in
+    let over : c.excess.result ≡ excess c.args.sequence = search arith in
     omega (arith, ints, returns-clause-value c)

@@ -9,8 +9,8 @@ use Rattle.shapers_stretch.proofs.Numbers.{reach_fits}
 use Rattle.shapers_stretch.proofs.ot_shaper_arabic_stretch.measuring.tiles_reach.Goals as goal
 
 product : (c : goal.After-struct_told-1)
-    → to_z w64 (of_z w64 (to_z w64 c.args.added +ℤ pos 1)) *ℤ to_z w64 (of_z w64 c.args.run.repeating)
-    ≡ tiles_reach c.args.run c.args.added
+    → to_z w64 (of_z w64 (to_z w64 c.args.added +ℤ pos 1)) *ℤ to_z w64 (of_z w64 c.args.sequence.repeating)
+    ≡ tiles_reach c.args.sequence c.args.added
 product = search arith
 
 pub overflow_mul-result : goal.overflow_mul-result
@@ -29,4 +29,4 @@ returns-clause-low = search (arith, returns-clause-value, within)
 pub returns-clause-high : goal.returns-clause-high
 returns-clause-high c =
     subst (λ x. x ≤ℤ pos (3 * 2 ^ 61)) (sym (returns-clause-value c))
-    (within c.args.run c.args.added c.requires.fits.repeating c.requires.bound).1
+    (within c.args.sequence c.args.added c.requires.fits.repeating c.requires.bound).1

@@ -19,39 +19,39 @@ within z times rest f fits = shared_within z rest (search arith)
 pub shared_by-requires-clause-low : goal.shared_by-requires-clause-low
 shared_by-requires-clause-low c =
     subst (λ x. pos 0 ≤ℤ x)
-    (sym (product c.args.run c.args.times c.copies.result c.args.shared (record { sfits = c.copies.type_inv })
+    (sym (product c.args.sequence c.args.times c.copies.result c.args.shared (record { sfits = c.copies.type_inv })
     c.ranges.shared c.copies.ensures c.requires.added c.requires.overlap))
-    (within c.args.run c.args.times c.requires.fits.left c.requires.added c.requires.tiles_reach).0
+    (within c.args.sequence c.args.times c.requires.fits.left c.requires.added c.requires.tiles_reach).0
 
 pub shared_by-requires-clause-high : goal.shared_by-requires-clause-high
 shared_by-requires-clause-high c =
     subst (λ x. x ≤ℤ pos (2 ^ 34))
-    (sym (product c.args.run c.args.times c.copies.result c.args.shared (record { sfits = c.copies.type_inv })
+    (sym (product c.args.sequence c.args.times c.copies.result c.args.shared (record { sfits = c.copies.type_inv })
     c.ranges.shared c.copies.ensures c.requires.added c.requires.overlap))
-    (within c.args.run c.args.times c.requires.fits.left c.requires.added c.requires.tiles_reach).1
+    (within c.args.sequence c.args.times c.requires.fits.left c.requires.added c.requires.tiles_reach).1
 
 pub overflow_sub-result : goal.overflow_sub-result
 overflow_sub-result c = omega (
   arith,
   ints,
   c.shared_by.ensures
-      ∙ (product c.args.run c.args.times c.copies.result c.args.shared (record { sfits = c.copies.type_inv })
+      ∙ (product c.args.sequence c.args.times c.copies.result c.args.shared (record { sfits = c.copies.type_inv })
       c.ranges.shared c.copies.ensures c.requires.added c.requires.overlap),
-  (within c.args.run c.args.times c.requires.fits.left c.requires.added c.requires.tiles_reach).0,
-  (within c.args.run c.args.times c.requires.fits.left c.requires.added c.requires.tiles_reach).1,
+  (within c.args.sequence c.args.times c.requires.fits.left c.requires.added c.requires.tiles_reach).0,
+  (within c.args.sequence c.args.times c.requires.fits.left c.requires.added c.requires.tiles_reach).1,
 )
 
 pub returns-clause-value : goal.returns-clause-value
 returns-clause-value c =
-    let reached : c.tiles_reach.result ≡ tiles_reach c.args.run (times_added c.args.run) = search arith in
+    let reached : c.tiles_reach.result ≡ tiles_reach c.args.sequence (times_added c.args.sequence) = search arith in
     omega (
       arith,
       ints,
       c.shared_by.ensures
-          ∙ (product c.args.run c.args.times c.copies.result c.args.shared (record { sfits = c.copies.type_inv })
+          ∙ (product c.args.sequence c.args.times c.copies.result c.args.shared (record { sfits = c.copies.type_inv })
           c.ranges.shared c.copies.ensures c.requires.added c.requires.overlap),
-      (within c.args.run c.args.times c.requires.fits.left c.requires.added c.requires.tiles_reach).0,
-      (within c.args.run c.args.times c.requires.fits.left c.requires.added c.requires.tiles_reach).1,
+      (within c.args.sequence c.args.times c.requires.fits.left c.requires.added c.requires.tiles_reach).0,
+      (within c.args.sequence c.args.times c.requires.fits.left c.requires.added c.requires.tiles_reach).1,
     )
 
 pub returns-clause-low : goal.returns-clause-low
@@ -59,10 +59,10 @@ returns-clause-low c = omega (
   arith,
   ints,
   c.shared_by.ensures
-      ∙ (product c.args.run c.args.times c.copies.result c.args.shared (record { sfits = c.copies.type_inv })
+      ∙ (product c.args.sequence c.args.times c.copies.result c.args.shared (record { sfits = c.copies.type_inv })
       c.ranges.shared c.copies.ensures c.requires.added c.requires.overlap),
-  (within c.args.run c.args.times c.requires.fits.left c.requires.added c.requires.tiles_reach).0,
-  (within c.args.run c.args.times c.requires.fits.left c.requires.added c.requires.tiles_reach).1,
+  (within c.args.sequence c.args.times c.requires.fits.left c.requires.added c.requires.tiles_reach).0,
+  (within c.args.sequence c.args.times c.requires.fits.left c.requires.added c.requires.tiles_reach).1,
 )
 
 pub returns-clause-high : goal.returns-clause-high
@@ -70,8 +70,8 @@ returns-clause-high c = omega (
   arith,
   ints,
   c.shared_by.ensures
-      ∙ (product c.args.run c.args.times c.copies.result c.args.shared (record { sfits = c.copies.type_inv })
+      ∙ (product c.args.sequence c.args.times c.copies.result c.args.shared (record { sfits = c.copies.type_inv })
       c.ranges.shared c.copies.ensures c.requires.added c.requires.overlap),
-  (within c.args.run c.args.times c.requires.fits.left c.requires.added c.requires.tiles_reach).0,
-  (within c.args.run c.args.times c.requires.fits.left c.requires.added c.requires.tiles_reach).1,
+  (within c.args.sequence c.args.times c.requires.fits.left c.requires.added c.requires.tiles_reach).0,
+  (within c.args.sequence c.args.times c.requires.fits.left c.requires.added c.requires.tiles_reach).1,
 )

@@ -19,20 +19,20 @@ loop-i-preserved c =
     let b1 = c.if-goes_front.buffer in
     elim c.if-goes_front.branch [
       | then-goes_front w ↦
-          rw (w.front-is, w.run-is, w.buffer-is)
-          (merging_front s behind e l.front l.i l.run w.merge_range-run.result b0 l.buffer w.merge_range-run.new.self
+          rw (w.front-is, w.pending-is, w.buffer-is)
+          (merging_front s behind e l.front l.i l.pending w.merge_range-pending.result b0 l.buffer w.merge_range-pending.new.self
           c.loop-i-test.true c.requires.in_range l.invariant
           (ap (λ xs. goes_front (at xs l.i)) (sym c.glyphs.ensures) ∙ sym c.goes_front.ensures
-          ∙ w.if-goes_front.true) w.merge_range-run.ensures.others w.merge_range-run.ensures.merged
-          w.merge_range-run.ensures.fits w.merge_range-run.ensures.same_length)
+          ∙ w.if-goes_front.true) w.merge_range-pending.ensures.others w.merge_range-pending.ensures.merged
+          w.merge_range-pending.ensures.fits w.merge_range-pending.ensures.same_length)
       | else-goes_front+then-is_halant w ↦
-          rw (w.front-is, w.run-is) (merging_halant s behind e l.front l.i l.run b0 l.buffer b1 c.loop-i-test.true
+          rw (w.front-is, w.pending-is) (merging_halant s behind e l.front l.i l.pending b0 l.buffer b1 c.loop-i-test.true
           c.requires.in_range l.invariant (ap (λ xs. goes_front (at xs l.i)) (sym c.glyphs.ensures)
           ∙ sym c.goes_front.ensures ∙ w.if-goes_front.false)
           (ap (λ xs. is_universal_halant (at xs l.i)) (sym w.glyphs-else-goes_front.ensures)
           ∙ sym w.is_halant.ensures ∙ w.if-is_halant.true) w.buffer-is)
       | else-goes_front+else-is_halant w ↦
-          rw (w.front-is, w.run-is) (merging_rest s behind e l.front l.i l.run b0 l.buffer b1 c.loop-i-test.true
+          rw (w.front-is, w.pending-is) (merging_rest s behind e l.front l.i l.pending b0 l.buffer b1 c.loop-i-test.true
           c.requires.in_range l.invariant (ap (λ xs. goes_front (at xs l.i)) (sym c.glyphs.ensures)
           ∙ sym c.goes_front.ensures ∙ w.if-goes_front.false)
           (ap (λ xs. is_universal_halant (at xs l.i)) (sym w.glyphs-else-goes_front.ensures)

@@ -71,10 +71,10 @@ fn count_sequence<F: Font>(
     word: &[GlyphPosition],
     tiles: &[GlyphInfo],
 ) -> Option<usize> {
-    let run = measure(font, word, tiles)?;
-    let lay = lay_of(choice, right_to_left, run)?;
+    let sequence = measure(font, word, tiles)?;
+    let lay = lay_of(choice, right_to_left, sequence)?;
     if offsets_fit(font, right_to_left, lay, tiles) {
-        Some(lay.added * run.repeaters)
+        Some(lay.added * sequence.repeaters)
     } else {
         None
     }

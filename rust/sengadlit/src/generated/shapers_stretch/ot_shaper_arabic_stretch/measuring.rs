@@ -87,10 +87,10 @@ fn measure_long<F: Font>(
     let mut repeating = 0;
     let mut repeaters = 0;
     for piece in tiles.chunks(SHORT) {
-        let run = measure_short(font, &[], piece);
-        fixed += i128::from(run.fixed);
-        repeating += i128::from(run.repeating);
-        repeaters += run.repeaters;
+        let measured = measure_short(font, &[], piece);
+        fixed += i128::from(measured.fixed);
+        repeating += i128::from(measured.repeating);
+        repeaters += measured.repeaters;
     }
     Some(TileSequence {
         word: narrowed(word)?,
@@ -140,22 +140,26 @@ pub(super) fn lay_of_sequence<F: Font>(
     word: &[GlyphPosition],
     tiles: &[GlyphInfo],
 ) -> Option<Lay> {
-    let run = measure(font, word, tiles)?;
-    lay_of(choice, right_to_left, run)
+    let sequence = measure(font, word, tiles)?;
+    lay_of(choice, right_to_left, sequence)
 }
 
 /// How a sequence is laid, unless one of its numbers doesn't fit 32 bits.
 #[inline]
-pub(super) fn lay_of(choice: StretchStart, right_to_left: bool, run: TileSequence) -> Option<Lay> {
-    if !sequence_fits(run) {
+pub(super) fn lay_of(
+    choice: StretchStart,
+    right_to_left: bool,
+    sequence: TileSequence,
+) -> Option<Lay> {
+    if !sequence_fits(sequence) {
         return None;
     }
-    let rounds = rounds_of(run);
-    if !added_fits(run, rounds.added) {
+    let rounds = rounds_of(sequence);
+    if !added_fits(sequence, rounds.added) {
         return None;
     }
-    let overlap = overlap(run, rounds);
-    let start = start(choice, right_to_left, run, rounds, overlap)?;
+    let overlap = overlap(sequence, rounds);
+    let start = start(choice, right_to_left, sequence, rounds, overlap)?;
     Some(Lay {
         added: rounds.added,
         overlap,
@@ -165,19 +169,19 @@ pub(super) fn lay_of(choice: StretchStart, right_to_left: bool, run: TileSequenc
 
 // Whether what a sequence measures fits 32 bits, and what its fixed tiles leave of the word.
 #[inline]
-fn sequence_fits(run: TileSequence) -> bool {
-    fits_i32(run.word)
-        && fits_i32(run.fixed)
-        && fits_i32(run.repeating)
-        && fits_i32(run.word - run.fixed)
+fn sequence_fits(sequence: TileSequence) -> bool {
+    fits_i32(sequence.word)
+        && fits_i32(sequence.fixed)
+        && fits_i32(sequence.repeating)
+        && fits_i32(sequence.word - sequence.fixed)
 }
 
 // How many times more the repeating tiles of a sequence fit into what is left.
 #[inline]
-fn fitting(run: TileSequence) -> usize {
-    let left = left_of(run);
-    if run.repeating < left && 0 < run.repeating {
-        times_more(run, left)
+fn fitting(sequence: TileSequence) -> usize {
+    let left = left_of(sequence);
+    if sequence.repeating < left && 0 < sequence.repeating {
+        times_more(sequence, left)
     } else {
         0
     }
@@ -185,8 +189,8 @@ fn fitting(run: TileSequence) -> usize {
 
 // The same where they do fit.
 #[inline]
-fn times_more(run: TileSequence, left: i64) -> usize {
-    (left.unsigned_abs() / run.repeating.unsigned_abs()) as usize - 1
+fn times_more(sequence: TileSequence, left: i64) -> usize {
+    (left.unsigned_abs() / sequence.repeating.unsigned_abs()) as usize - 1
 }
 
 // How often the repeating tiles are laid besides once, and whether these copies overlap.
@@ -198,10 +202,10 @@ struct Rounds {
 
 // How many times more they are laid, and whether that is so much that the copies overlap.
 #[inline]
-fn rounds_of(run: TileSequence) -> Rounds {
-    let fitting = fitting(run);
-    let left = run.word - run.fixed;
-    if left <= tiles_reach(run, fitting) || run.repeaters == 0 {
+fn rounds_of(sequence: TileSequence) -> Rounds {
+    let fitting = fitting(sequence);
+    let left = sequence.word - sequence.fixed;
+    if left <= tiles_reach(sequence, fitting) || sequence.repeaters == 0 {
         return Rounds {
             added: fitting,
             squeezes: false,
@@ -210,47 +214,50 @@ fn rounds_of(run: TileSequence) -> Rounds {
     let added = fitting + 1;
     Rounds {
         added,
-        squeezes: 0 < excess(run, added),
+        squeezes: 0 < excess(sequence, added),
     }
 }
 
 // How far the repeating tiles reach, laid once and these times more.
 #[inline]
-fn tiles_reach(run: TileSequence, added: usize) -> i64 {
-    (added as i64 + 1) * run.repeating
+fn tiles_reach(sequence: TileSequence, added: usize) -> i64 {
+    (added as i64 + 1) * sequence.repeating
 }
 
 // How far they then reach too far.
 #[inline]
-fn excess(run: TileSequence, added: usize) -> i64 {
-    tiles_reach(run, added) - (run.word - run.fixed)
+fn excess(sequence: TileSequence, added: usize) -> i64 {
+    tiles_reach(sequence, added) - (sequence.word - sequence.fixed)
 }
 
 // How many copies that makes.
 #[inline]
-fn copies(run: TileSequence, added: usize) -> i64 {
-    (added * run.repeaters) as i64
+fn copies(sequence: TileSequence, added: usize) -> i64 {
+    (added * sequence.repeaters) as i64
 }
 
 // Whether these numbers fit 32 bits.
 #[inline]
-fn added_fits(run: TileSequence, added: usize) -> bool {
-    fits_i32(tiles_reach(run, added)) && few_copies(run, added)
+fn added_fits(sequence: TileSequence, added: usize) -> bool {
+    fits_i32(tiles_reach(sequence, added)) && few_copies(sequence, added)
 }
 
 // Whether the number of copies that this makes fits 32 bits.
 #[inline]
-fn few_copies(run: TileSequence, added: usize) -> bool {
-    added as u128 * (run.repeaters as u128) < 0x8000_0000
+fn few_copies(sequence: TileSequence, added: usize) -> bool {
+    added as u128 * (sequence.repeaters as u128) < 0x8000_0000
 }
 
 // By how much each added copy overlaps the one before it.
 #[inline]
-fn overlap(run: TileSequence, rounds: Rounds) -> i64 {
+fn overlap(sequence: TileSequence, rounds: Rounds) -> i64 {
     if !rounds.squeezes {
         return 0;
     }
-    quotient(excess(run, rounds.added), copies(run, rounds.added))
+    quotient(
+        excess(sequence, rounds.added),
+        copies(sequence, rounds.added),
+    )
 }
 
 // Where the first tile begins, unless a number of the choice doesn't fit 32 bits.
@@ -258,37 +265,42 @@ fn overlap(run: TileSequence, rounds: Rounds) -> i64 {
 fn start(
     choice: StretchStart,
     right_to_left: bool,
-    run: TileSequence,
+    sequence: TileSequence,
     rounds: Rounds,
     shared: i64,
 ) -> Option<i64> {
     match choice {
-        StretchStart::AsCode => Some(start_as_code(run, rounds.squeezes)),
-        StretchStart::Centred => centred_start(right_to_left, run, rounds.added, shared),
+        StretchStart::AsCode => Some(start_as_code(sequence, rounds.squeezes)),
+        StretchStart::Centred => centred_start(right_to_left, sequence, rounds.added, shared),
     }
 }
 
 // The first choice of a start.
 #[inline]
-fn start_as_code(run: TileSequence, shares: bool) -> i64 {
-    if shares { 0 } else { half(left_of(run)) }
+fn start_as_code(sequence: TileSequence, shares: bool) -> i64 {
+    if shares { 0 } else { half(left_of(sequence)) }
 }
 
 // What the fixed tiles leave of the word.
 #[inline]
-fn left_of(run: TileSequence) -> i64 {
-    run.word - run.fixed
+fn left_of(sequence: TileSequence) -> i64 {
+    sequence.word - sequence.fixed
 }
 
 // The second choice: what is laid is centred on the word, unless its width, or the word less that
 // width, doesn't fit 32 bits.
 #[inline]
-fn centred_start(right_to_left: bool, run: TileSequence, times: usize, shared: i64) -> Option<i64> {
-    let width = width_of_laid(run, times, shared);
+fn centred_start(
+    right_to_left: bool,
+    sequence: TileSequence,
+    times: usize,
+    shared: i64,
+) -> Option<i64> {
+    let width = width_of_laid(sequence, times, shared);
     if !fits_i32(width) {
         return None;
     }
-    let gap = gap(run, width);
+    let gap = gap(sequence, width);
     if !fits_i32(gap) {
         return None;
     }
@@ -297,8 +309,8 @@ fn centred_start(right_to_left: bool, run: TileSequence, times: usize, shared: i
 
 // How much wider the word is than what is laid.
 #[inline]
-fn gap(run: TileSequence, width: i64) -> i64 {
-    run.word - width
+fn gap(sequence: TileSequence, width: i64) -> i64 {
+    sequence.word - width
 }
 
 // Half of a number.
@@ -315,8 +327,8 @@ fn along(right_to_left: bool, x: i64) -> i64 {
 
 // The width that is laid.
 #[inline]
-fn width_of_laid(run: TileSequence, times: usize, shared: i64) -> i64 {
-    run.fixed + tiles_reach(run, times) - shared_by(copies(run, times), shared)
+fn width_of_laid(sequence: TileSequence, times: usize, shared: i64) -> i64 {
+    sequence.fixed + tiles_reach(sequence, times) - shared_by(copies(sequence, times), shared)
 }
 
 // What so many copies overlap together.

@@ -93,7 +93,7 @@ impl<'a, F: Font> TileLaying<'a, F> {
                 let tiles = part.tiles..unlaid.end;
                 self.lay_tiles(lay, glyphs, positions, tiles, pen).place
             }
-            None => unreachable!("a run whose copies were counted has no lay"),
+            None => unreachable!("a sequence whose copies were counted has no lay"),
         }
     }
 

@@ -120,15 +120,15 @@ fn reorder_syllable(buffer: &mut Buffer, start: usize, end: usize) {
 fn merge_fronts(buffer: &mut Buffer, start: usize, behind: usize, end: usize) {
     // where the piece starts, and what has merged but isn't written
     let mut front = start;
-    let mut run = ClusterRange::NONE;
+    let mut pending = ClusterRange::NONE;
     for i in behind..end {
         if goes_front(&buffer.glyphs()[i]) {
-            run = buffer.merge_range(run, front, i + 1);
+            pending = buffer.merge_range(pending, front, i + 1);
         } else if is_halant(&buffer.glyphs()[i]) {
             front = i + 1;
         }
     }
-    buffer.write_range(run);
+    buffer.write_range(pending);
 }
 
 // Lists the order of the syllable from `start` to `end`, of which the reph and what it passes end

@@ -3,8 +3,8 @@ use Rattle.shapers_stretch.specs.LayingWalk.{laying_by}
 use Rattle.shapers_stretch.proofs.PartLaying.{part_can, part_laid, part_moved, part_unlaid}
 use Rattle.shapers_stretch.proofs.ot_shaper_arabic_stretch.tiles.TileLaying.lay_last.Goals as goal
 
-pub lay_sequence-place-requires-clause-run : goal.lay_sequence-place-requires-clause-run
-lay_sequence-place-requires-clause-run g c =
+pub lay_sequence-place-requires-clause-sequence : goal.lay_sequence-place-requires-clause-sequence
+lay_sequence-place-requires-clause-sequence g c =
     let how = laying_by (g.F.hb_font_t.font c.args.self.now.font.now) c.args.self.now.choice
     c.args.self.now.right_to_left in
     let p = c.last_part-part.result in

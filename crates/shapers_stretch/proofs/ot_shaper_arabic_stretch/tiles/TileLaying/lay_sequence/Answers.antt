@@ -40,14 +40,14 @@ lay_tiles-requires-clause-near g c =
 pub lay_tiles-requires-clause-numbers : goal.lay_tiles-requires-clause-numbers
 lay_tiles-requires-clause-numbers g c =
     numbers_stay (λ n. n ≤ 65535) c.args.part.word c.args.unlaid.end c.args.glyphs.now c.unsafe_to_break_in.new.glyphs
-    (search arith) c.unsafe_to_break_in.ensures c.requires.run.glyph_numbers
+    (search arith) c.unsafe_to_break_in.ensures c.requires.sequence.glyph_numbers
 
 pub lay_tiles-requires-clause-can : goal.lay_tiles-requires-clause-can
 lay_tiles-requires-clause-can g c =
     let font = g.F.hb_font_t.font c.args.self.now.font.now in
     let p = c.args.part in
     let u = c.args.unlaid in
-    let r = c.requires.run in
+    let r = c.requires.sequence in
     let old = zip c.args.glyphs.now c.args.positions.now in
     let word = stretch_of p.word p.tiles old in
     let tiles = stretch_of p.tiles u.end old in
@@ -72,9 +72,9 @@ lay_tiles-requires-clause-can g c =
     (measured_slices (g.F.hb_font_t.font c.args.self.now.font.now) c.args.part.word c.args.part.tiles
     c.args.unlaid.end c.args.glyphs.now c.args.positions.now) c.in-Some.lay (sym c.lay_of_sequence-found.ensures
     ∙ c.in-Some.is)) in
-    subst (λ run. CanLay c.args.self.now.right_to_left run
+    subst (λ sequence. CanLay c.args.self.now.right_to_left sequence
     (record { at = to_z w64 (of_z w64 c.in-Some.lay.start); place = u.place }) c.unsafe_to_break_in.new.glyphs
-    c.args.positions.now) (sym (same ∙ ap (λ run. copies font run cs) is)) (run_can
+    c.args.positions.now) (sym (same ∙ ap (λ sequence. copies font sequence cs) is)) (run_can
     (laying_by font c.args.self.now.choice c.args.self.now.right_to_left) word tiles cs p.tiles u.end u.place c.args.glyphs.now c.unsafe_to_break_in.new.glyphs
     c.args.positions.now _ r flags.tiles flags.same_length from)
 
@@ -83,7 +83,7 @@ lay_tiles-requires-clause-room g c =
     let font = g.F.hb_font_t.font c.args.self.now.font.now in
     let p = c.args.part in
     let u = c.args.unlaid in
-    let r = c.requires.run in
+    let r = c.requires.sequence in
     let old = zip c.args.glyphs.now c.args.positions.now in
     let word = stretch_of p.word p.tiles old in
     let tiles = stretch_of p.tiles u.end old in
@@ -103,7 +103,7 @@ lay_tiles-requires-clause-room g c =
     (measured_slices (g.F.hb_font_t.font c.args.self.now.font.now) c.args.part.word c.args.part.tiles
     c.args.unlaid.end c.args.glyphs.now c.args.positions.now) c.in-Some.lay (sym c.lay_of_sequence-found.ensures
     ∙ c.in-Some.is)) in
-    subst (λ run. p.tiles + length run ≤ u.place) (sym (same ∙ ap (λ run. copies font run cs) is)) (run_room
+    subst (λ sequence. p.tiles + length sequence ≤ u.place) (sym (same ∙ ap (λ sequence. copies font sequence cs) is)) (run_room
     (laying_by font c.args.self.now.choice c.args.self.now.right_to_left) word tiles cs p.tiles u.end u.place c.args.glyphs.now c.args.positions.now r flags.tiles)
 
 pub unreachable-requires : goal.unreachable-requires
@@ -111,7 +111,7 @@ unreachable-requires g c =
     let font = g.F.hb_font_t.font c.args.self.now.font.now in
     let p = c.args.part in
     let u = c.args.unlaid in
-    let r = c.requires.run in
+    let r = c.requires.sequence in
     let old = zip c.args.glyphs.now c.args.positions.now in
     let z = measured font (positions_of (stretch_of p.word p.tiles old)) (glyphs_of (stretch_of p.tiles u.end old)) in
     let is = measured_is font p.word p.tiles u.end c.args.glyphs.now c.args.positions.now r.order
@@ -126,7 +126,7 @@ returns-clause-flagged g c =
     let font = g.F.hb_font_t.font c.args.self.now.font.now in
     let p = c.args.part in
     let u = c.args.unlaid in
-    let r = c.requires.run in
+    let r = c.requires.sequence in
     let old = zip c.args.glyphs.now c.args.positions.now in
     let word = stretch_of p.word p.tiles old in
     let tiles = stretch_of p.tiles u.end old in
@@ -146,7 +146,7 @@ returns-clause-flagged g c =
     (measured_slices (g.F.hb_font_t.font c.args.self.now.font.now) c.args.part.word c.args.part.tiles
     c.args.unlaid.end c.args.glyphs.now c.args.positions.now) c.in-Some.lay (sym c.lay_of_sequence-found.ensures
     ∙ c.in-Some.is)) in
-    let room = subst (λ run. p.tiles + length run ≤ u.place) (sym (same ∙ ap (λ run. copies font run cs) is))
+    let room = subst (λ sequence. p.tiles + length sequence ≤ u.place) (sym (same ∙ ap (λ sequence. copies font sequence cs) is))
     (run_room
     (laying_by font c.args.self.now.choice c.args.self.now.right_to_left) word tiles cs p.tiles u.end u.place c.args.glyphs.now c.args.positions.now r flags.tiles) in
     let n = c.lay_tiles.new in
@@ -162,7 +162,7 @@ returns-clause-laid g c =
     let font = g.F.hb_font_t.font c.args.self.now.font.now in
     let p = c.args.part in
     let u = c.args.unlaid in
-    let r = c.requires.run in
+    let r = c.requires.sequence in
     let old = zip c.args.glyphs.now c.args.positions.now in
     let word = stretch_of p.word p.tiles old in
     let tiles = stretch_of p.tiles u.end old in
@@ -189,9 +189,9 @@ returns-clause-laid g c =
     (measured_slices (g.F.hb_font_t.font c.args.self.now.font.now) c.args.part.word c.args.part.tiles
     c.args.unlaid.end c.args.glyphs.now c.args.positions.now) c.in-Some.lay (sym c.lay_of_sequence-found.ensures
     ∙ c.in-Some.is)) in
-    let lays = subst (λ run. Lays c.args.self.now.right_to_left run
+    let lays = subst (λ sequence. Lays c.args.self.now.right_to_left sequence
     (record { at = to_z w64 (of_z w64 c.in-Some.lay.start); place = u.place }) c.lay_tiles.result mid
-    (zip n.glyphs n.positions)) (same ∙ ap (λ run. copies font run cs) is) c.lay_tiles.ensures.lays in
+    (zip n.glyphs n.positions)) (same ∙ ap (λ sequence. copies font sequence cs) is) c.lay_tiles.ensures.lays in
     run_laid
     (laying_by font c.args.self.now.choice c.args.self.now.right_to_left) word tiles cs _ u.place c.lay_tiles.result old mid (zip n.glyphs n.positions) flags.tiles from
     (flags.behind u.place r.ahead) lays
@@ -201,7 +201,7 @@ returns-clause-place g c =
     let font = g.F.hb_font_t.font c.args.self.now.font.now in
     let p = c.args.part in
     let u = c.args.unlaid in
-    let r = c.requires.run in
+    let r = c.requires.sequence in
     let old = zip c.args.glyphs.now c.args.positions.now in
     let word = stretch_of p.word p.tiles old in
     let tiles = stretch_of p.tiles u.end old in
@@ -223,8 +223,8 @@ returns-clause-place g c =
     (measured_slices (g.F.hb_font_t.font c.args.self.now.font.now) c.args.part.word c.args.part.tiles
     c.args.unlaid.end c.args.glyphs.now c.args.positions.now) c.in-Some.lay (sym c.lay_of_sequence-found.ensures
     ∙ c.in-Some.is)) in
-    let lays = subst (λ run. Lays c.args.self.now.right_to_left run
+    let lays = subst (λ sequence. Lays c.args.self.now.right_to_left sequence
     (record { at = to_z w64 (of_z w64 c.in-Some.lay.start); place = u.place }) c.lay_tiles.result mid
-    (zip n.glyphs n.positions)) (same ∙ ap (λ run. copies font run cs) is) c.lay_tiles.ensures.lays in
+    (zip n.glyphs n.positions)) (same ∙ ap (λ sequence. copies font sequence cs) is) c.lay_tiles.ensures.lays in
     run_place
     (laying_by font c.args.self.now.choice c.args.self.now.right_to_left) word tiles cs _ u.place c.lay_tiles.result mid (zip n.glyphs n.positions) flags.tiles lays
