@@ -21,7 +21,7 @@ pub struct GlyphView<'a> {
 }
 
 impl<'a> Model for GlyphView<'a> {
-    ghost use Rattle.std.specs.Prelude.{◌++◌, ◌+◌, ◌^◌, ◌<◌, length};
+    ghost use Rattle.std.specs.Prelude.{◌++◌};
     ghost use Rattle.shapers_buffer.specs.Glyphs.{Glyphs};
 
     ghost Value = { Glyphs };
