@@ -8,9 +8,8 @@ use Rattle.shapers_buffer.specs.Buffer.{Buffer}
 use Rattle.shapers_buffer.specs.Glyph.{default_glyph}
 use Rattle.shapers_buffer.specs.Glyphs.{Glyph, Glyphs}
 use Rattle.shapers_buffer.specs.declared.buffer.lookup_record.LookupRecord.{LookupRecord}
-use Rattle.opentype_face.specs.Bytes.{u16_in}
 use Rattle.opentype_face.specs.Firsts.{first_from, or_else}
-use Rattle.opentype_face.specs.Lookups.{lookup_in, subtable_in, type_in}
+use Rattle.opentype_face.specs.Lookups.{lookup_in, subtable_in, subtables_in, type_in}
 use Rattle.opentype_layout.specs.Looking.{looked_by, nothing, unjoined}
 use Rattle.opentype_layout.specs.Sight.{sight_of_input}
 use Rattle.opentype_layout.specs.Text.{glyph_at}
@@ -155,7 +154,7 @@ nth_put s sights table at gs r i is =
 
 -- what the first of a lookup's subtables that has something puts in
 abbrev pub found_by : List ℕ → ℕ → ℕ → Option ℕ
-found_by table number value = first_from (u16_in table 4) (put_by table number value) 0
+found_by table number value = first_from (subtables_in table) (put_by table number value) 0
 
 value_held : (s : Setting) (table : List ℕ) (g : Glyph)
     → value_of (sights_of s.gdef s.lookup table g).input g ≡ value_by s.lookup.mask (bit_and g.mask s.lookup.mask)
@@ -170,7 +169,7 @@ comes s table gs at r all lt =
     let sights = sights_of s.gdef s.lookup table g in
     sym (came_is s table gs at r sights lt refl)
     ∙ first_mapped (as_change s at gs r) (put_by table (two_byte_number gs at) (value_of sights.input g))
-    (nth_came s sights table at gs r) (u16_in table 4) 0 (λ d less. nth_put s sights table at gs r (0 + d) (all.1 (0 + d) (omega (arith, less))))
+    (nth_came s sights table at gs r) (subtables_in table) 0 (λ d less. nth_put s sights table at gs r (0 + d) (all.1 (0 + d) (omega (arith, less))))
     ∙ ap (λ v. option_map (as_change s at gs r) (found_by table (two_byte_number gs at) v)) (value_held s table g)
 
 -- nothing is looked at beside the glyph
@@ -195,7 +194,7 @@ unfolding tried lookup_looked
 still_tried s table gs at all =
     let sights = sights_of s.gdef s.lookup table (glyph_at gs at) in
     kept_if (s.concat && nat_lt at (length gs)) _ gs
-    (ap (λ x. unjoined x gs) (all_none _ (subtable_looked s sights table gs at) at (u16_in table 4) 0
+    (ap (λ x. unjoined x gs) (all_none _ (subtable_looked s sights table gs at) at (subtables_in table) 0
     (λ d less. unlooked s sights table gs at (0 + d) (all.1 (0 + d) (omega (arith, less))))) ∙ unflagged at gs)
 
 -- a glyph with what was found in its place, if the lookup sees it

@@ -17,9 +17,8 @@ use Rattle.shapers_pipeline.specs.Lookups.{LookupKeeps, lookups_of_stage}
 use Rattle.shapers_pipeline.specs.Stages.{StagesRun, Substitution}
 use Rattle.shapers_editing.specs.PipelineBreaks.{AreAsIn, EachLeaves, IsPiece, LookupLeaves, LookupsLeave, Numbering, NotesReadOrder, PipelineBreaks, SameButNumbers, unlinked}
 use Rattle.shapers_editing.proofs.PiecesAlike.{KeepsNumbers, cut_each, each_made}
-use Rattle.opentype_face.specs.Bytes.{u16_in}
 use Rattle.opentype_face.specs.Firsts.{first_from}
-use Rattle.opentype_face.specs.Lookups.{lookup_in}
+use Rattle.opentype_face.specs.Lookups.{lookup_in, subtables_in}
 use Rattle.opentype_layout.specs.Sight.{ignores, sight_of_input}
 use Rattle.opentype_layout.specs.Starts.{starting}
 use Rattle.opentype_layout.specs.Text.{glyph_at}
@@ -148,7 +147,7 @@ left_plain : (use_of : LookupUse) (table : List ℕ) → use_of.mask % 8 ≡ 0 �
     → is_left use_of table (plain g) ≡ is_left use_of table g
 unfolding is_left
 left_plain use_of table flagless g =
-    ap (λ n. (n == 0) || not (is_some (first_from (u16_in table 4) (starting false table (g.glyph_id % 65536)) 0)))
+    ap (λ n. (n == 0) || not (is_some (first_from (subtables_in table) (starting false table (g.glyph_id % 65536)) 0)))
     (mask_read g.mask use_of.mask flagless)
 
 left_unlinked : (use_of : LookupUse) (table : List ℕ) (g : Glyph)

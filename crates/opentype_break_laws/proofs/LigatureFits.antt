@@ -8,7 +8,7 @@ use Rattle.shapers_buffer.specs.Properties.{component}
 use Rattle.shapers_buffer.specs.declared.buffer.lookup_record.LookupRecord.{LookupRecord}
 use Rattle.opentype_face.specs.Bytes.{table_at, u16_in}
 use Rattle.opentype_face.specs.Firsts.{first_from, or_else}
-use Rattle.opentype_face.specs.Lookups.{subtable_in}
+use Rattle.opentype_face.specs.Lookups.{rule_count_in, subtable_in, subtables_in}
 use Rattle.opentype_layout.specs.Ligatures.{if_together, input_in, is_apart, is_attached, ligature_in}
 use Rattle.opentype_layout.specs.Pattern.{is_number, next_in, places_from, seen_by}
 use Rattle.opentype_layout.specs.Sight.{ignores, is_hit, is_passed, may_pass, next_from, seen_as}
@@ -222,13 +222,13 @@ ligated_too : (s t : Setting) (sight : Sight) (bytes : List ℕ) (gs hs : Glyphs
 unfolding ligated_put
 ligated_too s t sight bytes gs hs from at r q same looks part all lt =
     let other : List ℕ → Option PlaceChange = λ set. option_map (ligature_put t.gdef t.level (from + at) hs q)
-    (first_from (u16_in set 0) (nth_ligature t.gdef sight hs (from + at) set) 0) in
+    (first_from (rule_count_in set) (nth_ligature t.gdef sight hs (from + at) set) 0) in
     subst (λ number. FoundToo (ligated_put s.gdef s.level sight bytes gs at r)
     (option_and_then other (set_for_glyph bytes number))) (number_alike gs hs from at part lt)
     (then_too _ other (set_for_glyph bytes (two_byte_number gs at))
-    (λ set. mapped_too _ _ _ _ (subst (λ gdef. FoundToo (first_from (u16_in set 0) (nth_ligature s.gdef sight gs at set) 0)
-    (first_from (u16_in set 0) (nth_ligature gdef sight hs (from + at) set) 0)) same
-    (first_too (nth_ligature s.gdef sight gs at set) (nth_ligature s.gdef sight hs (from + at) set) (u16_in set 0) 0
+    (λ set. mapped_too _ _ _ _ (subst (λ gdef. FoundToo (first_from (rule_count_in set) (nth_ligature s.gdef sight gs at set) 0)
+    (first_from (rule_count_in set) (nth_ligature gdef sight hs (from + at) set) 0)) same
+    (first_too (nth_ligature s.gdef sight gs at set) (nth_ligature s.gdef sight hs (from + at) set) (rule_count_in set) 0
     (λ d less. ligature_too s.gdef sight gs hs from at (table_at set (u16_in set (2 + (0 + d) * 2))) looks part all)))))
 
 -- ---- THE LOOKUP'S LIGATURE at a place, by all its subtables
@@ -237,11 +237,11 @@ abbrev pub FittingLigature : Type 0
 FittingLigature = Option (ℕ × List ℕ)
 
 abbrev pub fit_in : List ℕ → Sight → Glyphs → ℕ → List ℕ → FittingLigature
-fit_in gdef sight gs at bytes = option_and_then (λ set. first_from (u16_in set 0) (nth_ligature gdef sight gs at set) 0)
+fit_in gdef sight gs at bytes = option_and_then (λ set. first_from (rule_count_in set) (nth_ligature gdef sight gs at set) 0)
     (set_for_glyph bytes (two_byte_number gs at))
 
 unfoldable pub ligature_fit : List ℕ → Sight → List ℕ → Glyphs → ℕ → FittingLigature
-ligature_fit gdef sight table gs at = first_from (u16_in table 4) (λ i. fit_in gdef sight gs at (subtable_in 7 table i)) 0
+ligature_fit gdef sight table gs at = first_from (subtables_in table) (λ i. fit_in gdef sight gs at (subtable_in 7 table i)) 0
 
 -- in the front of a text, where it fits none in the text
 pub none_fits : (gdef : List ℕ) (sight : Sight) (table : List ℕ) (gs hs : Glyphs) (from at : ℕ) → LooksAnywhere sight
@@ -249,14 +249,14 @@ pub none_fits : (gdef : List ℕ) (sight : Sight) (table : List ℕ) (gs hs : Gl
     → ligature_fit gdef sight table gs at ≡ None
 unfolding ligature_fit
 none_fits gdef sight table gs hs from at looks part all lt =
-    none_too _ _ (first_too _ _ (u16_in table 4) 0 (λ d less.
+    none_too _ _ (first_too _ _ (subtables_in table) 0 (λ d less.
     (let bytes = subtable_in 7 table (0 + d) in
-    let one : List ℕ → FittingLigature = λ set. first_from (u16_in set 0) (nth_ligature gdef sight gs at set) 0 in
-    let other : List ℕ → FittingLigature = λ set. first_from (u16_in set 0) (nth_ligature gdef sight hs (from + at) set) 0 in
+    let one : List ℕ → FittingLigature = λ set. first_from (rule_count_in set) (nth_ligature gdef sight gs at set) 0 in
+    let other : List ℕ → FittingLigature = λ set. first_from (rule_count_in set) (nth_ligature gdef sight hs (from + at) set) 0 in
     subst (λ number. FoundToo (fit_in gdef sight gs at bytes) (option_and_then other (set_for_glyph bytes number)))
     (number_alike gs hs from at part lt)
     (then_too one other (set_for_glyph bytes (two_byte_number gs at)) (λ set.
-    first_too (nth_ligature gdef sight gs at set) (nth_ligature gdef sight hs (from + at) set) (u16_in set 0) 0
+    first_too (nth_ligature gdef sight gs at set) (nth_ligature gdef sight hs (from + at) set) (rule_count_in set) 0
     (λ e small. ligature_too gdef sight gs hs from at (table_at set (u16_in set (2 + (0 + e) * 2))) looks part all))))))
 
 -- ---- THE SAME BEHIND other glyphs: the places move
@@ -393,14 +393,14 @@ pub fit_moved : (gdef : List ℕ) (sight : Sight) (table : List ℕ) (gs hs : Gl
 unfolding ligature_fit
 fit_moved gdef sight table gs hs from at looks ends lt =
     first_mapped (moved_fit from) (λ i. fit_in gdef sight gs at (subtable_in 7 table i))
-    (λ i. fit_in gdef sight hs (from + at) (subtable_in 7 table i)) (u16_in table 4) 0 (λ d less.
+    (λ i. fit_in gdef sight hs (from + at) (subtable_in 7 table i)) (subtables_in table) 0 (λ d less.
     (let bytes = subtable_in 7 table (0 + d) in
-    let one : List ℕ → FittingLigature = λ set. first_from (u16_in set 0) (nth_ligature gdef sight gs at set) 0 in
-    let other : List ℕ → FittingLigature = λ set. first_from (u16_in set 0) (nth_ligature gdef sight hs (from + at) set) 0 in
+    let one : List ℕ → FittingLigature = λ set. first_from (rule_count_in set) (nth_ligature gdef sight gs at set) 0 in
+    let other : List ℕ → FittingLigature = λ set. first_from (rule_count_in set) (nth_ligature gdef sight hs (from + at) set) 0 in
     ap (λ n. option_and_then other (set_for_glyph bytes n)) (sym (number_alike gs hs from at ends.part lt))
     ∙ then_moved (moved_fit from) one other (set_for_glyph bytes (two_byte_number gs at)) (λ set.
     first_mapped (moved_fit from) (nth_ligature gdef sight gs at set) (nth_ligature gdef sight hs (from + at) set)
-    (u16_in set 0) 0 (λ e small. ligature_moved gdef sight gs hs from at (table_at set (u16_in set (2 + (0 + e) * 2))) looks ends))))
+    (rule_count_in set) 0 (λ e small. ligature_moved gdef sight gs hs from at (table_at set (u16_in set (2 + (0 + e) * 2))) looks ends))))
 
 -- ---- THE SAME IN THE FRONT of a text, where what fits stands in it
 
@@ -534,22 +534,22 @@ pub fit_kept : (gdef : List ℕ) (sight : Sight) (table : List ℕ) (gs hs : Gly
 unfolding ligature_fit
 fit_kept gdef sight table gs hs it looks begins some e all =
     let number : two_byte_number hs 0 ≡ two_byte_number gs 0 = ap (λ (g : Glyph). g.glyph_id % 65536) (sym (begins.alike 0 some)) in
-    let one : List ℕ → FittingLigature = λ set. first_from (u16_in set 0) (nth_ligature gdef sight gs 0 set) 0 in
-    let other : List ℕ → FittingLigature = λ set. first_from (u16_in set 0) (nth_ligature gdef sight hs 0 set) 0 in
+    let one : List ℕ → FittingLigature = λ set. first_from (rule_count_in set) (nth_ligature gdef sight gs 0 set) 0 in
+    let other : List ℕ → FittingLigature = λ set. first_from (rule_count_in set) (nth_ligature gdef sight hs 0 set) 0 in
     let lost : (ligature : List ℕ) → ligature_of gdef sight hs 0 ligature ≡ None → ligature_of gdef sight gs 0 ligature ≡ None =
     λ ligature none. none_too (ligature_of gdef sight gs 0 ligature) (ligature_of gdef sight hs 0 ligature)
     (ligature_too gdef sight gs hs 0 0 ligature looks begins.part begins.there) none in
     first_kept (λ i. fit_in gdef sight hs 0 (subtable_in 7 table i)) (λ i. fit_in gdef sight gs 0 (subtable_in 7 table i)) it
-    (u16_in table 4) 0
+    (subtables_in table) 0
     (λ d less none. (let bytes = subtable_in 7 table (0 + d) in
     none_too (fit_in gdef sight gs 0 bytes) (fit_in gdef sight hs 0 bytes)
     (subst (λ n. FoundToo (fit_in gdef sight gs 0 bytes) (option_and_then other (set_for_glyph bytes n))) (sym number)
     (then_too one other (set_for_glyph bytes (two_byte_number gs 0)) (λ set.
-    first_too (nth_ligature gdef sight gs 0 set) (nth_ligature gdef sight hs 0 set) (u16_in set 0) 0
+    first_too (nth_ligature gdef sight gs 0 set) (nth_ligature gdef sight hs 0 set) (rule_count_in set) 0
     (λ x small. ligature_too gdef sight gs hs 0 0 (table_at set (u16_in set (2 + (0 + x) * 2))) looks begins.part begins.there)))) none))
     (λ d less found. (let bytes = subtable_in 7 table (0 + d) in
     then_kept one other it (set_for_glyph bytes (two_byte_number gs 0)) (λ set is.
-    first_kept (nth_ligature gdef sight hs 0 set) (nth_ligature gdef sight gs 0 set) it (u16_in set 0) 0
+    first_kept (nth_ligature gdef sight hs 0 set) (nth_ligature gdef sight gs 0 set) it (rule_count_in set) 0
     (λ x small none. lost (table_at set (u16_in set (2 + (0 + x) * 2))) none)
     (λ x small is. ligature_kept gdef sight gs hs 0 (table_at set (u16_in set (2 + (0 + x) * 2))) it looks begins is all) is)
     (subst (λ n. option_and_then other (set_for_glyph bytes n) ≡ Some it) number found))) e
@@ -637,8 +637,8 @@ pub fit_climbs : (gdef : List ℕ) (sight : Sight) (table : List ℕ) (gs : Glyp
 unfolding ligature_fit
 fit_climbs gdef sight table gs at it all e =
     let P : Type 0 = Climbs at it.1 (length gs) in
-    first_gives P (λ i. fit_in gdef sight gs at (subtable_in 7 table i)) it (u16_in table 4) 0 (λ i r.
-    then_gives P (λ set. first_from (u16_in set 0) (nth_ligature gdef sight gs at set) 0) it
+    first_gives P (λ i. fit_in gdef sight gs at (subtable_in 7 table i)) it (subtables_in table) 0 (λ i r.
+    then_gives P (λ set. first_from (rule_count_in set) (nth_ligature gdef sight gs at set) 0) it
     (set_for_glyph (subtable_in 7 table i) (two_byte_number gs at)) (λ set is.
-    first_gives P (nth_ligature gdef sight gs at set) it (u16_in set 0) 0 (λ j found.
+    first_gives P (nth_ligature gdef sight gs at set) it (rule_count_in set) 0 (λ j found.
     ligature_climbs gdef sight gs at (table_at set (u16_in set (2 + j * 2))) it all found) is) r) e

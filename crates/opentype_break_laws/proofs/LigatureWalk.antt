@@ -9,9 +9,8 @@ use Rattle.shapers_buffer.specs.Glyph.{clusters, default_glyph, without_flags}
 use Rattle.shapers_buffer.specs.Glyphs.{Glyph, Glyphs}
 use Rattle.shapers_buffer.specs.Properties.{component, has_bit}
 use Rattle.shapers_buffer.specs.declared.buffer.lookup_record.LookupRecord.{LookupRecord}
-use Rattle.opentype_face.specs.Bytes.{u16_in}
 use Rattle.opentype_face.specs.Firsts.{first_from}
-use Rattle.opentype_face.specs.Lookups.{subtable_in, type_in}
+use Rattle.opentype_face.specs.Lookups.{rule_count_in, subtable_in, subtables_in, type_in}
 use Rattle.opentype_layout.specs.Sight.{ignores, sight_of_input}
 use Rattle.opentype_layout.specs.Text.{glyph_at}
 use Rattle.opentype_layout.specs.declared.sight.Sight.{Sight}
@@ -99,7 +98,7 @@ fits_are gdef use_of table looks =
 -- ---- A LOOKUP of ligatures in a text
 
 pub record IsLigating (s : Setting) (table : List ℕ) : Type 0 where
-  pub types : (i : ℕ) → i < u16_in table 4 → type_in 7 table i ≡ 4
+  pub types : (i : ℕ) → i < subtables_in table → type_in 7 table i ≡ 4
   pub across : s.lookup.per_syllable ≡ false
   pub merging : merges s.level ≡ true
   pub flagless : (m : ℕ) → bit_and (without_flags m) s.lookup.mask ≡ bit_and m s.lookup.mask
@@ -141,7 +140,7 @@ put_four : (s : Setting) (sight : Sight) (bytes : List ℕ) (gs : Glyphs) (at : 
     → one_put s sight 4 bytes gs at r ≡ option_map (ligature_put s.gdef s.level at gs r) (fit_in s.gdef sight gs at bytes)
 unfolding one_put ligated_put
 put_four s sight bytes gs at r = and_then_mapped (ligature_put s.gdef s.level at gs r)
-    (λ set. first_from (u16_in set 0) (nth_ligature s.gdef sight gs at set) 0) (set_for_glyph bytes (two_byte_number gs at))
+    (λ set. first_from (rule_count_in set) (nth_ligature s.gdef sight gs at set) 0) (set_for_glyph bytes (two_byte_number gs at))
 
 pub comes_fit : (s : Setting) (table : List ℕ) (gs : Glyphs) (at : ℕ) (r : LookupRecord) → IsLigating s table → at < length gs
     → came_in s table gs at r ≡ option_map (as_put s at gs r) (ligature_fit s.gdef (sight_for s.gdef s.lookup table) table gs at)
@@ -149,10 +148,10 @@ unfolding ligature_fit
 comes_fit s table gs at r is lt =
     let sights = sights_of s.gdef s.lookup table (glyph_at gs at) in
     let all : Sight → Option (PlaceChange ⊎ Begun) = λ sight. option_map (as_put s at gs r)
-    (first_from (u16_in table 4) (λ i. fit_in s.gdef sight gs at (subtable_in 7 table i)) 0) in
+    (first_from (subtables_in table) (λ i. fit_in s.gdef sight gs at (subtable_in 7 table i)) 0) in
     sym (came_is s table gs at r sights lt refl)
     ∙ first_mapped (as_put s at gs r) (λ i. fit_in s.gdef sights.input gs at (subtable_in 7 table i))
-    (nth_came s sights table at gs r) (u16_in table 4) 0
+    (nth_came s sights table at gs r) (subtables_in table) 0
     (λ d less. (let bytes = subtable_in 7 table (0 + d) in
     ruleless s sights table at gs r (0 + d) 4 (is.types (0 + d) (omega (arith, less))) refl
     ∙ ap (option_map inl) (put_four s sights.input bytes gs at r)

@@ -6,8 +6,7 @@ use Rattle.shapers_buffer.specs.Clusters.{merges}
 use Rattle.shapers_buffer.specs.Glyphs.{Glyph, Glyphs}
 use Rattle.shapers_buffer.specs.Properties.{component}
 use Rattle.shapers_clusters.specs.Breaks.{is_unsafe}
-use Rattle.opentype_face.specs.Bytes.{u16_in}
-use Rattle.opentype_face.specs.Lookups.{lookup_in, type_in}
+use Rattle.opentype_face.specs.Lookups.{lookup_in, subtables_in, type_in}
 use Rattle.shapers_plan.specs.declared.ot_map.lookups.StageLookup.{StageLookup}
 
 -- A glyph stands before another one: its cluster isn't greater; and where both are of one cluster,
@@ -29,8 +28,8 @@ HasNoComponents gs = AllByRecursion (λ g. component g.lig_props ≡ 0) gs
 -- A lookup of a plan puts ligatures in, by a font's GSUB: its table has subtables, and all are of
 -- type 4. It stays in no syllable, and its mask has no glyph flag.
 pub record PutsLigatures (gsub : List ℕ) (lookup : StageLookup) : Type 0 where
-  pub some : 0 < u16_in (lookup_in gsub lookup.index) 4
-  pub types : (i : ℕ) → i < u16_in (lookup_in gsub lookup.index) 4 →
+  pub some : 0 < subtables_in (lookup_in gsub lookup.index)
+  pub types : (i : ℕ) → i < subtables_in (lookup_in gsub lookup.index) →
       type_in 7 (lookup_in gsub lookup.index) i ≡ 4
   pub across : lookup.per_syllable ≡ false
   pub flagless : lookup.mask % 8 ≡ 0

@@ -4,7 +4,7 @@ use Rattle.opentype_face.specs.Bytes.{u16_in, u32_in, u24_in, i16_in, table_at, 
 use Rattle.opentype_face.specs.Classes.{is_in_set, mark_set_count_in, props_of}
 use Rattle.opentype_face.specs.Cmap.{cmap_in}
 use Rattle.opentype_face.specs.Glyphs.{class_in, coverage_in}
-use Rattle.opentype_face.specs.Lookups.{lookup_in, mark_set_in, subtable_in, type_in}
+use Rattle.opentype_face.specs.Lookups.{lookup_in, mark_set_in, rule_count_in, subtable_in, subtables_in, type_in}
 use Rattle.opentype_face.specs.Ranges.{bisect}
 use Rattle.opentype_face.specs.Variants.{variant_in}
 use Rattle.opentype_face.specs.declared.variants.GlyphVariant.TheVariants.{NotFound, Found, UseDefault}
@@ -137,3 +137,17 @@ extended = refl
 
 types : type_in 7 extension 0 ∷ type_in 9 extension 0 ∷ mark_set_in extension ∷ [] ≡ 1 ∷ 7 ∷ 4 ∷ []
 types = refl
+
+-- counts of subtables, of which the first 4,096 are read
+counts : map (λ count. subtables_in (words (7 ∷ 16 ∷ count ∷ 10 ∷ []))) (0 ∷ 1 ∷ 736 ∷ 4095 ∷ 4096 ∷ 4097 ∷ 65535 ∷ [])
+    ≡ 0 ∷ 1 ∷ 736 ∷ 4095 ∷ 4096 ∷ 4096 ∷ 4096 ∷ []
+counts = refl
+
+-- counts of rules, of which the first 4,096 are read
+rule_counts : map (λ count. rule_count_in (words (count ∷ 7 ∷ []))) (0 ∷ 1 ∷ 1836 ∷ 4095 ∷ 4096 ∷ 4097 ∷ 65535 ∷ [])
+    ≡ 0 ∷ 1 ∷ 1836 ∷ 4095 ∷ 4096 ∷ 4096 ∷ 4096 ∷ []
+rule_counts = refl
+
+-- the count stands in bytes 4 and 5, and what a lookup lacks of them reads as zero
+uncounted : map subtables_in ([] ∷ words (7 ∷ 16 ∷ []) ∷ (7 ∷ 7 ∷ 7 ∷ 7 ∷ 7 ∷ []) ∷ []) ≡ 0 ∷ 0 ∷ 1792 ∷ []
+uncounted = refl

@@ -7,7 +7,7 @@ use Rattle.shapers_buffer.specs.Glyphs.{Glyph}
 use Rattle.shapers_base.specs.declared.font.GlyphId.{GlyphId}
 use Rattle.opentype_face.specs.Bytes.{table_at, u16_in}
 use Rattle.opentype_face.specs.Glyphs.{coverage_in}
-use Rattle.opentype_face.specs.Lookups.{lookup_in, subtable_in, type_in}
+use Rattle.opentype_face.specs.Lookups.{lookup_in, subtable_in, subtables_in, type_in}
 use Rattle.opentype_layout.specs.LookupRows.{AreAbsent, BeginsNot}
 use Rattle.opentype_layout.specs.Pattern.{is_in_sets}
 use Rattle.opentype_layout.specs.Rules.{first_at, start_at}
@@ -153,7 +153,7 @@ unstarted lookup glyph i e = off_if _ i e
 pub unbegun : (lookup : List ℕ) (glyphs : List GlyphId) (zero_context : Bool) → BeginsNot false lookup (nth_number glyphs 0) →
     lookup_applies lookup glyphs zero_context ≡ false
 unbegun lookup glyphs zero_context none =
-    ap is_some (none_of (λ i. when (nth_applies lookup glyphs zero_context i)) (min (u16_in lookup 4) 256) 0
+    ap is_some (none_of (λ i. when (nth_applies lookup glyphs zero_context i)) (min (subtables_in lookup) 256) 0
     (λ d lt. ap when (no_subtable (type_in 7 lookup (0 + d)) (subtable_in 7 lookup (0 + d)) glyphs zero_context
     (unstarted lookup (nth_number glyphs 0) (0 + d) (none.none (0 + d) (omega arith) (omega arith))))))
 

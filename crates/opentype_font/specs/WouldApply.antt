@@ -3,7 +3,7 @@ use Rattle.std.specs.Prelude.{ℕ, ◌+◌, ◌-◌, ◌*◌, min, ◌==◌, ◌
 use Rattle.shapers_base.specs.declared.font.GlyphId.{GlyphId}
 use Rattle.opentype_face.specs.Bytes.{u16_in, table_at}
 use Rattle.opentype_face.specs.Glyphs.{class_in, coverage_in}
-use Rattle.opentype_face.specs.Lookups.{lookup_in, subtable_in, type_in}
+use Rattle.opentype_face.specs.Lookups.{lookup_in, subtable_in, subtables_in, type_in}
 use Rattle.opentype_layout.specs.Pattern.{is_in_sets, is_number}
 use Rattle.opentype_layout.specs.Rules.{set_in}
 use Rattle.opentype_font.specs.Tests.{all_pass, some_of}
@@ -139,7 +139,7 @@ nth_applies lookup glyphs zero_context i =
 -- a lookup: one of its subtables would, of which 256 are asked at most
 abbrev pub lookup_applies : List ℕ → List GlyphId → Bool → Bool
 lookup_applies lookup glyphs zero_context =
-    some_of (min (u16_in lookup 4) 256) (nth_applies lookup glyphs zero_context)
+    some_of (min (subtables_in lookup) 256) (nth_applies lookup glyphs zero_context)
 
 abbrev pub would_apply : List ℕ → ℕ → List GlyphId → Bool → Bool
 would_apply gsub index glyphs zero_context =

@@ -9,7 +9,7 @@ use Rattle.shapers_buffer.specs.declared.buffer.level.Direction.{Direction}
 use Rattle.opentype_face.specs.Bytes.{u16_in, table_at}
 use Rattle.opentype_face.specs.Firsts.{first_from}
 use Rattle.opentype_face.specs.Glyphs.{coverage_in}
-use Rattle.opentype_face.specs.Lookups.{lookup_in, subtable_in, type_in}
+use Rattle.opentype_face.specs.Lookups.{lookup_in, subtable_in, subtables_in, type_in}
 use Rattle.opentype_face.proofs.Foremost.{IsFirst, first_found, first_hit, first_missed, first_out, first_passed, first_start}
 use Rattle.opentype_layout.specs.Looking.{looked_by, nothing, unjoined}
 use Rattle.opentype_layout.specs.Rules.{first_at}
@@ -94,101 +94,101 @@ nth_none s sights lookup gs at i none =
 -- ---- the subtables that are passed over, one after another
 
 pub passed_to : (s : Setting) (sights : Sights) (lookup : List ℕ) (gs : Glyphs) (at glyph from next : ℕ) →
-    IsFirst (nth_came s sights lookup gs at) (u16_in lookup 4) from → glyph ≡ number_at gs at →
-    from ≤ next → next ≤ u16_in lookup 4 → NoneStarts true lookup glyph from next →
-    IsFirst (nth_came s sights lookup gs at) (u16_in lookup 4) next
+    IsFirst (nth_came s sights lookup gs at) (subtables_in lookup) from → glyph ≡ number_at gs at →
+    from ≤ next → next ≤ subtables_in lookup → NoneStarts true lookup glyph from next →
+    IsFirst (nth_came s sights lookup gs at) (subtables_in lookup) next
 passed_to s sights lookup gs at glyph from next first is le within none =
     let e : from + (next - from) ≡ next = omega arith in
-    rw e at (over (nth_came s sights lookup gs at) (u16_in lookup 4) (next - from) from first (omega arith)
+    rw e at (over (nth_came s sights lookup gs at) (subtables_in lookup) (next - from) from first (omega arith)
     (λ j low high. nth_none s sights lookup gs at j
     (rw is at (none.none j low (omega arith)))))
 
 -- a lookup's subtables are tried up to one, and none has come to anything
 pub record IsTried (s : Setting) (sights : Sights) (lookup : List ℕ) (gs : Glyphs) (at from : ℕ) : Type 0 where
-  pub first : IsFirst (nth_came s sights lookup gs at) (u16_in lookup 4) from
-  pub within : from ≤ u16_in lookup 4
+  pub first : IsFirst (nth_came s sights lookup gs at) (subtables_in lookup) from
+  pub within : from ≤ subtables_in lookup
 
 pub tried_start : (s : Setting) (sights : Sights) (lookup : List ℕ) (gs : Glyphs) (at : ℕ) → IsTried s sights lookup gs at 0
 tried_start s sights lookup gs at = record { first = first_start _ _; within = omega arith }
 
 tried_to : (s : Setting) (sights : Sights) (lookup : List ℕ) (gs : Glyphs) (at glyph from : ℕ) (found : Option ℕ) (next : ℕ) →
     IsTried s sights lookup gs at from → glyph ≡ number_at gs at →
-    IfSome found (λ n. (from ≤ n) × (n < u16_in lookup 4)) →
-    NoneStarts true lookup glyph from (unwrap_or found (u16_in lookup 4)) → found ≡ Some next →
-    (next < u16_in lookup 4) × IsFirst (nth_came s sights lookup gs at) (u16_in lookup 4) next
+    IfSome found (λ n. (from ≤ n) × (n < subtables_in lookup)) →
+    NoneStarts true lookup glyph from (unwrap_or found (subtables_in lookup)) → found ≡ Some next →
+    (next < subtables_in lookup) × IsFirst (nth_came s sights lookup gs at) (subtables_in lookup) next
 tried_to s sights lookup gs at glyph from found next t is inside none e =
-    let within : (from ≤ next) × (next < u16_in lookup 4) = rw e at inside in
+    let within : (from ≤ next) × (next < subtables_in lookup) = rw e at inside in
     let some : NoneStarts true lookup glyph from next = rw e at none in
     (within.1, passed_to s sights lookup gs at glyph from next t.first is within.0 (omega (arith, within.1)) some)
 
 pub tried_found : (s : Setting) (sights : Sights) (lookup : List ℕ) (gs : Glyphs) (at glyph from : ℕ) (found : Option ℕ) (next : ℕ)
     (o : Option Came) → IsTried s sights lookup gs at from → glyph ≡ number_at gs at →
-    IfSome found (λ n. (from ≤ n) × (n < u16_in lookup 4)) →
-    NoneStarts true lookup glyph from (unwrap_or found (u16_in lookup 4)) → found ≡ Some next →
+    IfSome found (λ n. (from ≤ n) × (n < subtables_in lookup)) →
+    NoneStarts true lookup glyph from (unwrap_or found (subtables_in lookup)) → found ≡ Some next →
     option_map came o ≡ nth_came s sights lookup gs at next → is_some o ≡ true →
-    option_map came o ≡ first_from (u16_in lookup 4) (nth_came s sights lookup gs at) 0
+    option_map came o ≡ first_from (subtables_in lookup) (nth_came s sights lookup gs at) 0
 tried_found s sights lookup gs at glyph from found next o t is inside none e value some =
     let to = tried_to s sights lookup gs at glyph from found next t is inside none e in
-    first_found came (nth_came s sights lookup gs at) (u16_in lookup 4) next o to.1 to.0 value some
+    first_found came (nth_came s sights lookup gs at) (subtables_in lookup) next o to.1 to.0 value some
 
 pub tried_missed : (s : Setting) (sights : Sights) (lookup : List ℕ) (gs : Glyphs) (at glyph from : ℕ) (found : Option ℕ) (next : ℕ)
     (o : Option Came) → IsTried s sights lookup gs at from → glyph ≡ number_at gs at →
-    IfSome found (λ n. (from ≤ n) × (n < u16_in lookup 4)) →
-    NoneStarts true lookup glyph from (unwrap_or found (u16_in lookup 4)) → found ≡ Some next →
+    IfSome found (λ n. (from ≤ n) × (n < subtables_in lookup)) →
+    NoneStarts true lookup glyph from (unwrap_or found (subtables_in lookup)) → found ≡ Some next →
     option_map came o ≡ nth_came s sights lookup gs at next → is_some o ≡ false →
     IsTried s sights lookup gs at (next + 1)
 tried_missed s sights lookup gs at glyph from found next o t is inside none e value missed =
     let to = tried_to s sights lookup gs at glyph from found next t is inside none e in
     record {
-      first = first_missed came (nth_came s sights lookup gs at) (u16_in lookup 4) next o to.1 to.0 value missed;
+      first = first_missed came (nth_came s sights lookup gs at) (subtables_in lookup) next o to.1 to.0 value missed;
       within = omega (arith, to.0);
     }
 
 pub tried_all : (s : Setting) (sights : Sights) (lookup : List ℕ) (gs : Glyphs) (at glyph from : ℕ) (found : Option ℕ) →
     IsTried s sights lookup gs at from → glyph ≡ number_at gs at →
-    NoneStarts true lookup glyph from (unwrap_or found (u16_in lookup 4)) → found ≡ None →
-    None ≡ first_from (u16_in lookup 4) (nth_came s sights lookup gs at) 0
+    NoneStarts true lookup glyph from (unwrap_or found (subtables_in lookup)) → found ≡ None →
+    None ≡ first_from (subtables_in lookup) (nth_came s sights lookup gs at) 0
 tried_all s sights lookup gs at glyph from found t is none e =
-    let rest : NoneStarts true lookup glyph from (u16_in lookup 4) = rw e at none in
-    let end = passed_to s sights lookup gs at glyph from (u16_in lookup 4) t.first is t.within (omega arith) rest in
-    sym (first_out (nth_came s sights lookup gs at) (u16_in lookup 4) (u16_in lookup 4) end (omega arith))
+    let rest : NoneStarts true lookup glyph from (subtables_in lookup) = rw e at none in
+    let end = passed_to s sights lookup gs at glyph from (subtables_in lookup) t.first is t.within (omega arith) rest in
+    sym (first_out (nth_came s sights lookup gs at) (subtables_in lookup) (subtables_in lookup) end (omega arith))
 
 -- ---- a subtable of pairs with tables
 
 pub tried_pair : (s : Setting) (sights : Sights) (lookup : List ℕ) (gs : Glyphs) (at i : ℕ) (bytes : List ℕ)
-    (o : Option PairPlace) (pair : PairPlace) → IsTried s sights lookup gs at i → i < u16_in lookup 4 →
+    (o : Option PairPlace) (pair : PairPlace) → IsTried s sights lookup gs at i → i < subtables_in lookup →
     type_in 9 lookup i ≡ 2 → bytes ≡ subtable_in 9 lookup i →
     option_map pair_found o ≡ pair_move s.gdef sights.input bytes gs at → o ≡ Some pair →
-    Some (inl (pair_found pair)) ≡ first_from (u16_in lookup 4) (nth_came s sights lookup gs at) 0
+    Some (inl (pair_found pair)) ≡ first_from (subtables_in lookup) (nth_came s sights lookup gs at) 0
 tried_pair s sights lookup gs at i bytes o pair t lt kind is value some =
     let e = came_of_pairs s sights lookup gs at i bytes (option_map pair_found o) kind is value in
-    sym (first_hit (nth_came s sights lookup gs at) (u16_in lookup 4) i (inl (pair_found pair)) t.first lt
+    sym (first_hit (nth_came s sights lookup gs at) (subtables_in lookup) i (inl (pair_found pair)) t.first lt
     (sym (rw some at e)))
 
 pub tried_no_pair : (s : Setting) (sights : Sights) (lookup : List ℕ) (gs : Glyphs) (at i : ℕ) (bytes : List ℕ)
-    (o : Option PairPlace) → IsTried s sights lookup gs at i → i < u16_in lookup 4 →
+    (o : Option PairPlace) → IsTried s sights lookup gs at i → i < subtables_in lookup →
     type_in 9 lookup i ≡ 2 → bytes ≡ subtable_in 9 lookup i →
     option_map pair_found o ≡ pair_move s.gdef sights.input bytes gs at → o ≡ None →
     IsTried s sights lookup gs at (i + 1)
 tried_no_pair s sights lookup gs at i bytes o t lt kind is value missed =
     let e = came_of_pairs s sights lookup gs at i bytes (option_map pair_found o) kind is value in
     record {
-      first = first_passed (nth_came s sights lookup gs at) (u16_in lookup 4) i t.first lt (sym (rw missed at e));
+      first = first_passed (nth_came s sights lookup gs at) (subtables_in lookup) i t.first lt (sym (rw missed at e));
       within = omega arith;
     }
 
 pub tried_out : (s : Setting) (sights : Sights) (lookup : List ℕ) (gs : Glyphs) (at i : ℕ) →
-    IsTried s sights lookup gs at i → u16_in lookup 4 ≤ i →
-    None ≡ first_from (u16_in lookup 4) (nth_came s sights lookup gs at) 0
+    IsTried s sights lookup gs at i → subtables_in lookup ≤ i →
+    None ≡ first_from (subtables_in lookup) (nth_came s sights lookup gs at) 0
 tried_out s sights lookup gs at i t le =
-    sym (first_out (nth_came s sights lookup gs at) (u16_in lookup 4) i t.first le)
+    sym (first_out (nth_came s sights lookup gs at) (subtables_in lookup) i t.first le)
 
 came_none : (s : Setting) (sights : Sights) (lookup : List ℕ) (gs : Glyphs) (at : ℕ) →
-    NoneStarts true lookup (number_at gs at) 0 (u16_in lookup 4) → came_in s sights lookup gs at ≡ None
+    NoneStarts true lookup (number_at gs at) 0 (subtables_in lookup) → came_in s sights lookup gs at ≡ None
 unfolding came_in
 came_none s sights lookup gs at none =
     none_if (nat_lt at (length gs)) _ None
-    (λ t. none_of (nth_came s sights lookup gs at) (u16_in lookup 4) 0
+    (λ t. none_of (nth_came s sights lookup gs at) (subtables_in lookup) 0
     (λ d lt. nth_none s sights lookup gs at (0 + d) (none.none (0 + d) (omega arith) (omega arith))))
     (λ t. refl)
 
@@ -214,14 +214,14 @@ unlooked s sights lookup gs at i none =
     (uncovered lookup glyph i 2 none (places_plain kind bytes (grind (arith, common_steps, t)) (grind (arith, common_steps, t)))))
 
 looked_none : (s : Setting) (sights : Sights) (lookup : List ℕ) (gs : Glyphs) (at : ℕ) →
-    NoneStarts true lookup (number_at gs at) 0 (u16_in lookup 4) → lookup_looked s sights lookup gs at ≡ nothing at
+    NoneStarts true lookup (number_at gs at) 0 (subtables_in lookup) → lookup_looked s sights lookup gs at ≡ nothing at
 unfolding lookup_looked
 looked_none s sights lookup gs at none =
-    all_none _ (subtable_looked s sights lookup gs at) at (u16_in lookup 4) 0
+    all_none _ (subtable_looked s sights lookup gs at) at (subtables_in lookup) 0
     (λ d lt. unlooked s sights lookup gs at (0 + d) (none.none (0 + d) (omega arith) (omega arith)))
 
 tried_none : (s : Setting) (sights : Sights) (lookup : List ℕ) (gs : Glyphs) (at : ℕ) →
-    NoneStarts true lookup (number_at gs at) 0 (u16_in lookup 4) → tried s sights lookup gs at ≡ gs
+    NoneStarts true lookup (number_at gs at) 0 (subtables_in lookup) → tried s sights lookup gs at ≡ gs
 unfolding tried
 tried_none s sights lookup gs at none = kept_if (s.concat && nat_lt at (length gs)) _ gs
     (ap (λ x. unjoined x gs) (looked_none s sights lookup gs at none) ∙ unflagged at gs)
@@ -233,7 +233,7 @@ either_way true x y z one two = one
 either_way false x y z one two = two
 
 pub step_passed : (s : Setting) (sights : Sights) (lookup : List ℕ) (gs : Glyphs) (ps : Positions) (at : ℕ) →
-    NoneStarts true lookup (number_at gs at) 0 (u16_in lookup 4) →
+    NoneStarts true lookup (number_at gs at) 0 (subtables_in lookup) →
     position_stepped s sights lookup gs ps at ≡ record { glyphs = gs; positions = ps; next = at + 1 }
 unfolding position_stepped
 step_passed s sights lookup gs ps at none =
@@ -254,7 +254,7 @@ stays_to f steps gs ps (suc p) paired le within h =
     (h p (omega arith)))
 
 walked_first : (s : Setting) (lookup : List ℕ) (gs : Glyphs) (ps : Positions) (first : ℕ) → length ps ≡ length gs →
-    first ≤ length gs → ((i : ℕ) → i < first → NoneStarts true lookup (number_at gs i) 0 (u16_in lookup 4)) →
+    first ≤ length gs → ((i : ℕ) → i < first → NoneStarts true lookup (number_at gs i) 0 (subtables_in lookup)) →
     IsWalked (position_stepped s (sights_in s lookup) lookup) (length gs) gs ps first gs ps first
 walked_first s lookup gs ps first paired within none =
     stays_to (position_stepped s (sights_in s lookup) lookup) (length gs) gs ps first paired within within
@@ -264,7 +264,7 @@ walked_first s lookup gs ps first paired within none =
 
 pub positioned_nowhere : (gdef gpos : List ℕ) (index : ℕ) (how : Application) (b : Buffer) → length b.positions ≡ length b.glyphs →
     ((i : ℕ) → i < length b.glyphs →
-    NoneStarts true (lookup_in gpos index) (number_at b.glyphs i) 0 (u16_in (lookup_in gpos index) 4)) →
+    NoneStarts true (lookup_in gpos index) (number_at b.glyphs i) 0 (subtables_in (lookup_in gpos index))) →
     positioned gdef gpos index how b ≡ b
 unfolding positioned
 positioned_nowhere gdef gpos index how b paired none =

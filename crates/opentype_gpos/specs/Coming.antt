@@ -4,9 +4,8 @@ use Rattle.std.proofs.Common.{inl, inr}
 use Rattle.std.specs.Option.{option_map}
 use Rattle.shapers_buffer.specs.Glyphs.{Glyphs}
 use Rattle.shapers_buffer.specs.declared.buffer.level.Direction.{Direction}
-use Rattle.opentype_face.specs.Bytes.{u16_in}
 use Rattle.opentype_face.specs.Firsts.{first_from}
-use Rattle.opentype_face.specs.Lookups.{subtable_in, type_in}
+use Rattle.opentype_face.specs.Lookups.{subtable_in, subtables_in, type_in}
 use Rattle.opentype_layout.specs.Rules.{Found, context_in, found}
 use Rattle.opentype_layout.specs.Sight.{sight_of_context, sight_of_input}
 use Rattle.opentype_layout.specs.declared.sight.Application.{Application}
@@ -62,4 +61,4 @@ nth_came s sights lookup gs at i =
 unfoldable pub came_in : Setting → Sights → List ℕ → Glyphs → ℕ → Option (Move ⊎ Found)
 came_in s sights lookup gs at =
     if nat_lt at (length gs)
-    then first_from (u16_in lookup 4) (nth_came s sights lookup gs at) 0 else None
+    then first_from (subtables_in lookup) (nth_came s sights lookup gs at) 0 else None

@@ -4,7 +4,7 @@ use Rattle.std.specs.Prelude.{ℕ, ◌+◌, ◌-◌, ◌*◌, ◌==◌, ◌&&◌
 use Rattle.shapers_buffer.specs.Glyphs.{Glyphs}
 use Rattle.shapers_buffer.specs.declared.buffer.level.Direction.{Direction}
 use Rattle.opentype_face.specs.Bytes.{u16_in, table_at}
-use Rattle.opentype_face.specs.Lookups.{subtable_in, type_in}
+use Rattle.opentype_face.specs.Lookups.{subtable_in, subtables_in, type_in}
 use Rattle.opentype_layout.specs.Looking.{all_looked, context_rules, counted, looked_by, nothing, stop_from, unjoined}
 use Rattle.opentype_layout.specs.Text.{glyph_at}
 use Rattle.opentype_layout.specs.declared.looking.Stretch.{Stretch}
@@ -145,7 +145,7 @@ nth_comes s sights lookup gs at i = is_some (nth_came s sights lookup gs at i)
 -- what the subtables of a lookup looked at, up to the first that does something
 unfoldable pub lookup_looked : Setting → Sights → List ℕ → Glyphs → ℕ → Stretch
 lookup_looked s sights lookup gs at =
-    all_looked (u16_in lookup 4) (nth_comes s sights lookup gs at)
+    all_looked (subtables_in lookup) (nth_comes s sights lookup gs at)
     (subtable_looked s sights lookup gs at) 0 (nothing at)
 
 -- a text at a place of which a lookup is tried, where such flags are wanted

@@ -1,8 +1,8 @@
 //! What a lookup of GPOS comes to at a place of a text.
 ghost use Rattle.std.specs.Prelude.{◌≡◌, ◌<◌, length, IfSome};
 ghost use Rattle.std.specs.Option.{option_map};
-ghost use Rattle.opentype_face.specs.Bytes.{u16_in};
 ghost use Rattle.opentype_face.specs.Firsts.{first_from};
+ghost use Rattle.opentype_face.specs.Lookups.{subtables_in};
 ghost use Rattle.opentype_gpos.specs.Coming.{came, came_in, nth_came, setting_of};
 
 use crate::moves::{Move, PairPlace, move_by, pair_by_table};
@@ -73,7 +73,7 @@ fn come_among<'a>(
     at: usize,
 ) -> Option<Came<'a>>
     requires { at < length glyphs.now }
-    ensures { option_map came result ≡ first_from (u16_in lookup.now 4)
+    ensures { option_map came result ≡ first_from (subtables_in lookup.now)
         (nth_came (setting_of pass.now) sights.now lookup.now glyphs.now at) 0 }
 {
     let glyph = number(&glyphs[at]);
@@ -103,7 +103,7 @@ fn come_first<'a>(
     at: usize,
 ) -> Option<Came<'a>>
     requires { at < length glyphs.now }
-    ensures { option_map came result ≡ first_from (u16_in lookup.now 4)
+    ensures { option_map came result ≡ first_from (subtables_in lookup.now)
         (nth_came (setting_of pass.now) sights.now lookup.now glyphs.now at) 0 }
 {
     let count = subtable_count(lookup.bytes());

@@ -7,7 +7,7 @@ use Rattle.shapers_buffer.specs.GlyphFlags.{unsafe_inside}
 use Rattle.shapers_buffer.specs.Glyphs.{Glyphs}
 use Rattle.shapers_buffer.specs.declared.buffer.lookup_record.LookupRecord.{LookupRecord}
 use Rattle.opentype_face.specs.Bytes.{u16_in}
-use Rattle.opentype_face.specs.Lookups.{lookup_in, subtable_in, type_in}
+use Rattle.opentype_face.specs.Lookups.{lookup_in, rule_count_in, subtable_in, subtables_in, type_in}
 use Rattle.opentype_face.specs.Firsts.{first_from, or_else}
 use Rattle.opentype_layout.specs.Text.{glyph_at}
 use Rattle.opentype_layout.specs.declared.sight.Sight.{Sight}
@@ -116,7 +116,7 @@ one_less s sight kind bytes gs at r lt not_two =
     (if_each (Lessens gs) (kind == 4) _ None
     (then_each (Lessens gs) _ _ (λ set. mapped_if (AreWithin (length gs)) (Lessens gs)
     (ligature_put s.gdef s.level at gs r) _
-    (first_each (AreWithin (length gs)) (nth_ligature s.gdef sight gs at set) (u16_in set 0) 0
+    (first_each (AreWithin (length gs)) (nth_ligature s.gdef sight gs at set) (rule_count_in set) 0
     (λ j. ligature_within s.gdef sight gs at _))
     (λ it all. ligature_less s at gs r it lt all)))
     tt)))
@@ -138,12 +138,12 @@ nth_less s sights lookup at gs r i lt none =
     (one_less s sights.input kind bytes gs at r lt (or_left (kind == 2) ((kind == 5) || (kind == 6)) none)) (λ change less. less))
 
 came_less : (s : Setting) (lookup : List ℕ) (gs : Glyphs) (at : ℕ) (r : LookupRecord) →
-    is_some (first_from (u16_in lookup 4) (adding lookup) 0) ≡ false → ForEach (CameLess gs) (came_in s lookup gs at r)
+    is_some (first_from (subtables_in lookup) (adding lookup) 0) ≡ false → ForEach (CameLess gs) (came_in s lookup gs at r)
 unfolding came_in
 came_less s lookup gs at r none = each_when (CameLess gs) (nat_lt at (length gs)) _
-    (λ e. each_to (CameLess gs) (nth_came s (sights_of s.gdef s.lookup lookup (glyph_at gs at)) lookup at gs r) (u16_in lookup 4) 0
+    (λ e. each_to (CameLess gs) (nth_came s (sights_of s.gdef s.lookup lookup (glyph_at gs at)) lookup at gs r) (subtables_in lookup) 0
     (λ d lt. nth_less s (sights_of s.gdef s.lookup lookup (glyph_at gs at)) lookup at gs r (0 + d) (ltb-true at (length gs) e)
-    (not_adding lookup (0 + d) (none_each (adding lookup) (u16_in lookup 4) 0 none d lt))))
+    (not_adding lookup (0 + d) (none_each (adding lookup) (subtables_in lookup) 0 none d lt))))
 
 started_less : (step : Glyphs → LookupRecord → List Frame → MachineStep) (gs : Glyphs) (r : LookupRecord) (came : Option (PlaceChange ⊎ Begun)) →
     ForEach (CameLess gs) came → length (started step gs r came).text ≤ length gs
@@ -151,7 +151,7 @@ started_less step gs r None h = omega arith
 started_less step gs r (Some (inl change)) h = h
 started_less step gs r (Some (inr b)) h = absurd h
 
-pub step_less : (s : Setting) (lookup : List ℕ) → is_some (first_from (u16_in lookup 4) (adding lookup) 0) ≡ false →
+pub step_less : (s : Setting) (lookup : List ℕ) → is_some (first_from (subtables_in lookup) (adding lookup) 0) ≡ false →
     (gs : Glyphs) (at : ℕ) (r : LookupRecord) → length (lookup_stepped s lookup gs at r).text ≤ length gs
 unfolding lookup_stepped nested
 step_less s lookup none gs at r = let flagged = tried s lookup gs at in
@@ -188,7 +188,7 @@ back_less s lookup gs at = let flagged = tried_back s lookup gs at in
     if_text (length gs) (is_seen s.gdef s.lookup lookup (glyph_at gs at)) _ gs
     (omega (
       arith,
-      with_less s.gdef flagged at (first_from (u16_in lookup 4) (nth_reversed s.gdef
+      with_less s.gdef flagged at (first_from (subtables_in lookup) (nth_reversed s.gdef
           (sights_of s.gdef s.lookup lookup (glyph_at gs at)) lookup flagged at) 0),
       same_length flagged gs (tried_back_same s lookup gs at),
     )) (omega arith)
@@ -200,7 +200,7 @@ walk_back_less f h zero gs = omega arith
 walk_back_less f h (suc n) gs = (let one = h gs n in let more = walk_back_less f h n (f gs n) in omega arith)
 
 applied_less : (s : Setting) (gs : Glyphs) (r : LookupRecord) →
-    is_some (first_from (u16_in (lookup_in s.gsub s.lookup.index) 4) (adding (lookup_in s.gsub s.lookup.index)) 0) ≡ false →
+    is_some (first_from (subtables_in (lookup_in s.gsub s.lookup.index)) (adding (lookup_in s.gsub s.lookup.index)) 0) ≡ false →
     length (applied s gs r).text ≤ length gs
 unfolding applied
 applied_less s gs r none = let lookup = lookup_in s.gsub s.lookup.index in
@@ -214,7 +214,7 @@ by_growth old new true most less = most
 by_growth old new false most less = let few = less refl in omega arith
 
 glyphs_less : (gdef gsub : List ℕ) (use_of : LookupUse) (b : Buffer) →
-    is_some (first_from (u16_in (lookup_in gsub use_of.index) 4) (adding (lookup_in gsub use_of.index)) 0) ≡ false →
+    is_some (first_from (subtables_in (lookup_in gsub use_of.index)) (adding (lookup_in gsub use_of.index)) 0) ≡ false →
     length (substituted gdef gsub use_of b).glyphs ≤ length b.glyphs
 unfolding substituted
 glyphs_less gdef gsub use_of b none = applied_less (setting_for gdef gsub use_of b) b.glyphs b.lookups none
@@ -222,5 +222,5 @@ glyphs_less gdef gsub use_of b none = applied_less (setting_for gdef gsub use_of
 pub glyphs_grow_by : (gdef gsub : List ℕ) (use_of : LookupUse) (b : Buffer) →
     length (substituted gdef gsub use_of b).glyphs ≤ length b.glyphs * growth_in gsub use_of.index
 glyphs_grow_by gdef gsub use_of b = by_growth (length b.glyphs) (length (substituted gdef gsub use_of b).glyphs)
-    (is_some (first_from (u16_in (lookup_in gsub use_of.index) 4) (adding (lookup_in gsub use_of.index)) 0))
+    (is_some (first_from (subtables_in (lookup_in gsub use_of.index)) (adding (lookup_in gsub use_of.index)) 0))
     (glyphs_grow gdef gsub use_of b) (glyphs_less gdef gsub use_of b)

@@ -29,7 +29,7 @@ use Rattle.std.specs.Prelude.{Err, IsOkUnless, Ok, Result, slice_set}
 use Rattle.shapers_buffer.specs.Refusals.{RefusesLength}
 use Rattle.shapers_buffer.specs.declared.buffer.refusal.ShaperError.{ShaperError}
 use Rattle.shapers_buffer.specs.declared.buffer.refusal.ShaperError.TheVariants.{Memory, TooLong}
-use Rattle.opentype_face.specs.Lookups.{lookup_in, subtable_in, type_in}
+use Rattle.opentype_face.specs.Lookups.{lookup_in, rule_count_in, subtable_in, subtables_in, type_in}
 use Rattle.opentype_layout.specs.Rules.{Found, context_in}
 use Rattle.opentype_gsub.specs.Reversed.{tried_back, lookup_stepped_back, applied_backward, with_glyph}
 use Rattle.opentype_layout.specs.declared.sight.Sight.{Sight}
@@ -230,7 +230,7 @@ one_keeps s sight kind bytes gs at r lt =
     (if_each (ChangeKeeps s gs) (kind == 4) _ None
     (then_each (ChangeKeeps s gs) _ _ (λ set. mapped_if (AreWithin (length gs)) (ChangeKeeps s gs)
     (ligature_put s.gdef s.level at gs r) _
-    (first_each (AreWithin (length gs)) (nth_ligature s.gdef sight gs at set) (u16_in set 0) 0
+    (first_each (AreWithin (length gs)) (nth_ligature s.gdef sight gs at set) (rule_count_in set) 0
     (λ j. ligature_within s.gdef sight gs at _))
     (λ it all. ligature_keeps s at gs r it lt all)))
     tt)))
@@ -262,7 +262,7 @@ each_when P false o h = tt
 came_keeps : (s : Setting) (lookup : List ℕ) (gs : Glyphs) (at : ℕ) (r : LookupRecord) → ForEach (CameKeeps s gs) (came_in s lookup gs at r)
 unfolding came_in
 came_keeps s lookup gs at r = each_when (CameKeeps s gs) (nat_lt at (length gs)) _
-    (λ e. first_each (CameKeeps s gs) (nth_came s (sights_of s.gdef s.lookup lookup (glyph_at gs at)) lookup at gs r) (u16_in lookup 4) 0
+    (λ e. first_each (CameKeeps s gs) (nth_came s (sights_of s.gdef s.lookup lookup (glyph_at gs at)) lookup at gs r) (subtables_in lookup) 0
     (λ j. nth_keeps s (sights_of s.gdef s.lookup lookup (glyph_at gs at)) lookup at gs r j (ltb-true at (length gs) e)))
 
 -- ---- the machine

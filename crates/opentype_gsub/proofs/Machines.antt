@@ -6,7 +6,6 @@ use Rattle.std.proofs.lemmas.List.{append-nil, map-append, reverse-append, take_
 use Rattle.shapers_buffer.specs.Glyphs.{Glyphs}
 use Rattle.opentype_gsub.specs.Applied.{PlaceChange, incomplete}
 use Rattle.opentype_face.specs.Firsts.{first_from}
-use Rattle.opentype_face.specs.Bytes.{u16_in}
 use Rattle.opentype_gsub.specs.Setting.{Setting, sights_of}
 use Rattle.opentype_gsub.specs.declared.pass.Sights.{Sights}
 use Rattle.std.specs.Prelude.{IfOk, Result}
@@ -22,6 +21,7 @@ use Rattle.opentype_gsub.specs.declared.machine.Outcome.{Outcome}
 use Rattle.shapers_buffer.specs.declared.buffer.lookup_record.LookupRecord.{LookupRecord}
 use Rattle.opentype_gsub.specs.declared.machine.Outcome.TheVariants.{Nothing, Done, Fits}
 use Rattle.opentype_face.proofs.Foremost.{IsFirst, first_hit, first_out, first_passed, first_start}
+use Rattle.opentype_face.specs.Lookups.{subtables_in}
 
 -- ---- places put in while there is room
 
@@ -215,16 +215,16 @@ came_out s lookup gs at r le = let e : nat_lt at (length gs) ≡ false = grind (
 
 pub came_is : (s : Setting) (lookup : List ℕ) (gs : Glyphs) (at : ℕ) (r : LookupRecord) (sights : Sights) → at < length gs →
     sights ≡ sights_of s.gdef s.lookup lookup (glyph_at gs at) →
-    first_from (u16_in lookup 4) (nth_came s sights lookup at gs r) 0 ≡ came_in s lookup gs at r
+    first_from (subtables_in lookup) (nth_came s sights lookup at gs r) 0 ≡ came_in s lookup gs at r
 unfolding came_in
 came_is s lookup gs at r sights lt is =
     let e : nat_lt at (length gs) ≡ true = grind (arith, nat_tests) in
-    let h : Sights → Option (PlaceChange ⊎ Begun) = λ x. first_from (u16_in lookup 4) (nth_came s x lookup at gs r) 0 in
+    let h : Sights → Option (PlaceChange ⊎ Begun) = λ x. first_from (subtables_in lookup) (nth_came s x lookup at gs r) 0 in
     rw e (ap h is)
 
 pub came_by : (s : Setting) (lookup : List ℕ) (gs new : Glyphs) (at : ℕ) (r after : LookupRecord) (sights : Sights)
     (result : Result Outcome ShaperError) → at < length gs → sights ≡ sights_of s.gdef s.lookup lookup (glyph_at gs at) →
-    IfOk result (λ o. IsCome (first_from (u16_in lookup 4) (nth_came s sights lookup at gs r) 0) gs r new after o) →
+    IfOk result (λ o. IsCome (first_from (subtables_in lookup) (nth_came s sights lookup at gs r) 0) gs r new after o) →
     IfOk result (λ o. IsCome (came_in s lookup gs at r) gs r new after o)
 came_by s lookup gs new at r after sights result lt is come =
     subst (λ came. IfOk result (λ o. IsCome came gs r new after o)) (came_is s lookup gs at r sights lt is) come

@@ -4,9 +4,8 @@ use Rattle.std.specs.Option.{option_map}
 use Rattle.std.proofs.lemmas.Bool.Decides.{nat_tests}
 use Rattle.shapers_buffer.specs.Glyphs.{Glyphs}
 use Rattle.shapers_buffer.specs.declared.buffer.lookup_record.LookupRecord.{LookupRecord}
-use Rattle.opentype_face.specs.Bytes.{u16_in}
 use Rattle.opentype_face.specs.Firsts.{first_from}
-use Rattle.opentype_face.specs.Lookups.{subtable_in, type_in}
+use Rattle.opentype_face.specs.Lookups.{subtable_in, subtables_in, type_in}
 use Rattle.opentype_layout.specs.Sight.{sight_of_input}
 use Rattle.opentype_layout.specs.Text.{glyph_at}
 use Rattle.opentype_layout.proofs.NoneFits.{none_of}
@@ -74,7 +73,7 @@ pub came_seen : (s : Setting) (lookup bytes : List ℕ) (gs flagged new : Glyphs
     sight ≡ sight_of_input s.gdef lookup (how_of s.lookup) (glyph_at flagged at).syllable →
     flagged ≡ tried s bytes gs at → bytes ≡ lookup →
     ((sights : Sights) → sights.input ≡ sight →
-    IsCome (first_from (u16_in lookup 4) (nth_came s sights lookup at flagged r) 0) flagged r new after (outcome_of next)) →
+    IsCome (first_from (subtables_in lookup) (nth_came s sights lookup at flagged r) 0) flagged r new after (outcome_of next)) →
     IsCome (came_in s lookup (tried s lookup gs at) at r) (tried s lookup gs at) r new after (outcome_of next)
 unfolding sights_of
 came_seen s lookup bytes gs flagged new at r after sight next lt same is b come =
@@ -137,12 +136,12 @@ along_all s lookup old from before n text at r plain w none =
 adds_none : (kind : ℕ) → is_plain kind ≡ true → may_add kind ≡ false
 adds_none kind plain = grind (arith, nat_tests)
 
-not_adding : (lookup : List ℕ) (i : ℕ) → ArePlain lookup → i < u16_in lookup 4 → adding lookup i ≡ None
+not_adding : (lookup : List ℕ) (i : ℕ) → ArePlain lookup → i < subtables_in lookup → adding lookup i ≡ None
 unfolding adding
 not_adding lookup i plain lt = let no = adds_none (type_in 7 lookup i) (plain.1 i lt) in rw no refl
 
-none_adds : (lookup : List ℕ) → ArePlain lookup → is_some (first_from (u16_in lookup 4) (adding lookup) 0) ≡ false
-none_adds lookup plain = ap is_some (none_of (adding lookup) (u16_in lookup 4) 0 (λ d lt. not_adding lookup (0 + d) plain (omega arith)))
+none_adds : (lookup : List ℕ) → ArePlain lookup → is_some (first_from (subtables_in lookup) (adding lookup) 0) ≡ false
+none_adds lookup plain = ap is_some (none_of (adding lookup) (subtables_in lookup) 0 (λ d lt. not_adding lookup (0 + d) plain (omega arith)))
 
 pub plain_few : (s : Setting) (lookup : List ℕ) (gs new : Glyphs) (first : ℕ) (r after : LookupRecord) → ArePlain lookup →
     applied_from s lookup first gs r ≡ record { text = new; lookups = after } → length new ≤ length gs

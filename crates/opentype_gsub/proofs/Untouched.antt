@@ -12,7 +12,7 @@ use Rattle.shapers_buffer.specs.declared.buffer.lookup_record.LookupRecord.{Look
 use Rattle.opentype_face.specs.Bytes.{u16_in, table_at}
 use Rattle.opentype_face.specs.Firsts.{first_from}
 use Rattle.opentype_face.specs.Glyphs.{coverage_in}
-use Rattle.opentype_face.specs.Lookups.{lookup_in, subtable_in, type_in}
+use Rattle.opentype_face.specs.Lookups.{lookup_in, subtable_in, subtables_in, type_in}
 use Rattle.opentype_layout.specs.Rules.{first_at}
 use Rattle.opentype_layout.specs.Text.{glyph_at}
 use Rattle.opentype_layout.specs.declared.sight.Sight.{Sight}
@@ -120,18 +120,18 @@ starts_none : (lookup : List ℕ) (glyph i : ℕ) → is_some (starting false lo
 unfolding starting
 starts_none lookup glyph i e = not_started _ i e
 
-each_none : (lookup : List ℕ) (glyph : ℕ) → is_some (first_from (u16_in lookup 4) (starting false lookup glyph) 0) ≡ false →
-    (d : ℕ) → d < u16_in lookup 4 → starts_with false (type_in 7 lookup (0 + d)) (subtable_in 7 lookup (0 + d)) glyph ≡ false
+each_none : (lookup : List ℕ) (glyph : ℕ) → is_some (first_from (subtables_in lookup) (starting false lookup glyph) 0) ≡ false →
+    (d : ℕ) → d < subtables_in lookup → starts_with false (type_in 7 lookup (0 + d)) (subtable_in 7 lookup (0 + d)) glyph ≡ false
 each_none lookup glyph none d lt =
-    starts_none lookup glyph (0 + d) (none_each (starting false lookup glyph) (u16_in lookup 4) 0 none d lt)
+    starts_none lookup glyph (0 + d) (none_each (starting false lookup glyph) (subtables_in lookup) 0 none d lt)
 
 came_none : (s : Setting) (lookup : List ℕ) (gs : Glyphs) (at : ℕ) (r : LookupRecord) →
-    is_some (first_from (u16_in lookup 4) (starting false lookup (two_byte_number gs at)) 0) ≡ false →
+    is_some (first_from (subtables_in lookup) (starting false lookup (two_byte_number gs at)) 0) ≡ false →
     came_in s lookup gs at r ≡ None
 unfolding came_in
 came_none s lookup gs at r none = let sights = sights_of s.gdef s.lookup lookup (glyph_at gs at) in
     none_if (nat_lt at (length gs)) _ None
-    (λ t. none_of (nth_came s sights lookup at gs r) (u16_in lookup 4) 0
+    (λ t. none_of (nth_came s sights lookup at gs r) (subtables_in lookup) 0
     (λ d lt. nth_none s sights lookup at gs r (0 + d) (each_none lookup (two_byte_number gs at) none d lt)))
     (λ t. refl)
 
@@ -164,15 +164,15 @@ three_of : (format : ℕ) → not (format == 1) ≡ false → (format == 3) ≡ 
 three_of format e = grind (arith, common_steps, nat_tests)
 
 looked_none : (s : Setting) (sights : Sights) (lookup : List ℕ) (gs : Glyphs) (at : ℕ) →
-    is_some (first_from (u16_in lookup 4) (starting false lookup (two_byte_number gs at)) 0) ≡ false →
+    is_some (first_from (subtables_in lookup) (starting false lookup (two_byte_number gs at)) 0) ≡ false →
     lookup_looked s sights lookup gs at ≡ nothing at
 unfolding lookup_looked
 looked_none s sights lookup gs at none =
-    all_none _ (subtable_looked s sights lookup gs at) at (u16_in lookup 4) 0
+    all_none _ (subtable_looked s sights lookup gs at) at (subtables_in lookup) 0
     (λ d lt. unlooked s sights lookup gs at (0 + d) (each_none lookup (two_byte_number gs at) none d lt))
 
 tried_none : (s : Setting) (lookup : List ℕ) (gs : Glyphs) (at : ℕ) →
-    is_some (first_from (u16_in lookup 4) (starting false lookup (two_byte_number gs at)) 0) ≡ false →
+    is_some (first_from (subtables_in lookup) (starting false lookup (two_byte_number gs at)) 0) ≡ false →
     tried s lookup gs at ≡ gs
 unfolding tried
 tried_none s lookup gs at none = let sights = sights_of s.gdef s.lookup lookup (glyph_at gs at) in
@@ -216,10 +216,10 @@ unfolding is_left
 left_masked use_of lookup g e = masked _ _ e
 
 pub left_none : (use_of : LookupUse) (lookup : List ℕ) (g : Glyph) →
-    NoneStarts false lookup (g.glyph_id % 65536) 0 (u16_in lookup 4) → is_left use_of lookup g ≡ true
+    NoneStarts false lookup (g.glyph_id % 65536) 0 (subtables_in lookup) → is_left use_of lookup g ≡ true
 unfolding is_left
 left_none use_of lookup g n = begun_nowhere _ _
-    (none_of (starting false lookup (g.glyph_id % 65536)) (u16_in lookup 4) 0 (λ d lt. n.none (0 + d) (omega arith) (omega arith)))
+    (none_of (starting false lookup (g.glyph_id % 65536)) (subtables_in lookup) 0 (λ d lt. n.none (0 + d) (omega arith) (omega arith)))
 
 -- the same of what the code reads
 pub left_unmasked : (use_of : LookupUse) (lookup : List ℕ) (g : Glyph) → bit_and g.mask use_of.mask ≡ 0 →
@@ -227,7 +227,7 @@ pub left_unmasked : (use_of : LookupUse) (lookup : List ℕ) (g : Glyph) → bit
 left_unmasked use_of lookup g e = left_masked use_of lookup g (rw e refl)
 
 pub left_unstarted : (use_of : LookupUse) (lookup : List ℕ) (g : Glyph) (o : Option ℕ) (number : ℕ) (none : Bool) →
-    NoneStarts false lookup number 0 (unwrap_or o (u16_in lookup 4)) → number ≡ g.glyph_id % 65536 →
+    NoneStarts false lookup number 0 (unwrap_or o (subtables_in lookup)) → number ≡ g.glyph_id % 65536 →
     is_some o ≡ not none → none ≡ true → is_left use_of lookup g ≡ true
 left_unstarted use_of lookup g None number none n is e all = left_none use_of lookup g (rw is at n)
 left_unstarted use_of lookup g (Some x) number none n is e all = absurd (let no = rw all at e in cc)
@@ -251,7 +251,7 @@ nth_unstarted s sights lookup at gs r i e =
 
 why_left : (s : Setting) (lookup : List ℕ) (g : Glyph) → is_left s.lookup lookup g ≡ true →
     ((bit_and g.mask s.lookup.mask == 0) ≡ true)
-    ⊎ (is_some (first_from (u16_in lookup 4) (starting false lookup (g.glyph_id % 65536)) 0) ≡ false)
+    ⊎ (is_some (first_from (subtables_in lookup) (starting false lookup (g.glyph_id % 65536)) 0) ≡ false)
 unfolding is_left
 why_left s lookup g e = left_by _ _ e
 
@@ -310,11 +310,11 @@ applied_is s gs r first left within =
 -- ---- nothing to do
 
 kept_back : (s : Setting) (lookup : List ℕ) (gs : Glyphs) (at : ℕ) →
-    is_some (first_from (u16_in lookup 4) (starting false lookup (two_byte_number gs at)) 0) ≡ false →
-    with_glyph s.gdef gs at (first_from (u16_in lookup 4)
+    is_some (first_from (subtables_in lookup) (starting false lookup (two_byte_number gs at)) 0) ≡ false →
+    with_glyph s.gdef gs at (first_from (subtables_in lookup)
     (nth_reversed s.gdef (sights_of s.gdef s.lookup lookup (glyph_at gs at)) lookup gs at) 0) ≡ gs
 kept_back s lookup gs at none = let sights = sights_of s.gdef s.lookup lookup (glyph_at gs at) in
-    ap (with_glyph s.gdef gs at) (none_of (nth_reversed s.gdef sights lookup gs at) (u16_in lookup 4) 0
+    ap (with_glyph s.gdef gs at) (none_of (nth_reversed s.gdef sights lookup gs at) (subtables_in lookup) 0
     (λ d lt. nth_reversed_none s.gdef sights lookup gs at (0 + d) (each_none lookup (two_byte_number gs at) none d lt)))
 
 unlooked_back : (gdef : List ℕ) (sights : Sights) (lookup : List ℕ) (gs : Glyphs) (at i : ℕ) →
@@ -329,11 +329,11 @@ unlooked_back gdef sights lookup gs at i none =
     (at_start kind bytes (three_of (u16_in bytes 0) u)) in rw e refl)))
 
 back_untried : (s : Setting) (lookup : List ℕ) (gs : Glyphs) (at : ℕ) →
-    is_some (first_from (u16_in lookup 4) (starting false lookup (two_byte_number gs at)) 0) ≡ false →
+    is_some (first_from (subtables_in lookup) (starting false lookup (two_byte_number gs at)) 0) ≡ false →
     tried_back s lookup gs at ≡ gs
 unfolding tried_back all_looked_back
 back_untried s lookup gs at none = let sights = sights_of s.gdef s.lookup lookup (glyph_at gs at) in
-    kept_if s.concat _ gs (ap (λ x. unjoined x gs) (all_none _ (nth_looked_back s.gdef sights lookup gs at) at (u16_in lookup 4) 0
+    kept_if s.concat _ gs (ap (λ x. unjoined x gs) (all_none _ (nth_looked_back s.gdef sights lookup gs at) at (subtables_in lookup) 0
     (λ d lt. unlooked_back s.gdef sights lookup gs at (0 + d) (each_none lookup (two_byte_number gs at) none d lt)))
     ∙ unflagged at gs)
 

@@ -12,6 +12,7 @@ use Rattle.opentype_gsub.specs.Edits.{count_in, handed_on, last_place, multiplie
 use Rattle.opentype_gsub.specs.Ligated.{ligated}
 use Rattle.opentype_layout.specs.Text.{glyph_at}
 use Rattle.opentype_face.specs.Firsts.{first_from}
+use Rattle.opentype_face.specs.Lookups.{rule_count_in}
 use Rattle.opentype_gsub.specs.Ligatures.{nth_ligature}
 use Rattle.opentype_gsub.specs.Setting.{Setting}
 use Rattle.opentype_layout.specs.declared.sight.Sight.{Sight}
@@ -92,7 +93,7 @@ unfoldable pub ligated_put : List ℕ → BufferClusterLevel → Sight → List 
     LookupRecord → Option PlaceChange
 ligated_put gdef level sight bytes gs at r = option_and_then (λ set.
     option_map (ligature_put gdef level at gs r)
-    (first_from (u16_in set 0) (nth_ligature gdef sight gs at set) 0))
+    (first_from (rule_count_in set) (nth_ligature gdef sight gs at set) 0))
     (set_for_glyph bytes (two_byte_number gs at))
 
 -- the value of a feature at a glyph: the bits of its mask, of which the lowest counts 1

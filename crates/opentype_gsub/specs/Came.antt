@@ -4,9 +4,8 @@ use Rattle.std.proofs.Common.{inl, inr}
 use Rattle.std.specs.Option.{option_map}
 use Rattle.shapers_buffer.specs.Glyphs.{Glyphs}
 use Rattle.shapers_buffer.specs.declared.buffer.lookup_record.LookupRecord.{LookupRecord}
-use Rattle.opentype_face.specs.Bytes.{u16_in}
 use Rattle.opentype_face.specs.Firsts.{first_from}
-use Rattle.opentype_face.specs.Lookups.{subtable_in, type_in}
+use Rattle.opentype_face.specs.Lookups.{subtable_in, subtables_in, type_in}
 use Rattle.opentype_layout.specs.Rules.{Found, context_in}
 use Rattle.opentype_layout.specs.Text.{glyph_at}
 use Rattle.opentype_gsub.specs.Applied.{PlaceChange, one_put}
@@ -76,7 +75,7 @@ unfoldable pub came_in : Setting → List ℕ → Glyphs → ℕ → LookupRecor
     (PlaceChange ⊎ Begun)
 came_in s lookup gs at r =
     if nat_lt at (length gs)
-    then first_from (u16_in lookup 4) (nth_came s (sights_of s.gdef s.lookup lookup (glyph_at gs
+    then first_from (subtables_in lookup) (nth_came s (sights_of s.gdef s.lookup lookup (glyph_at gs
     at)) lookup at gs r) 0
     else None
 

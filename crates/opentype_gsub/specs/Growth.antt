@@ -1,7 +1,6 @@
 -- How much longer a lookup makes a text.
 use Rattle.std.specs.Prelude.{ℕ, ◌==◌, ◌||◌, Bool, is_some, List, Option, None, Some, if◌then◌else◌}
-use Rattle.opentype_face.specs.Bytes.{u16_in}
-use Rattle.opentype_face.specs.Lookups.{lookup_in, type_in}
+use Rattle.opentype_face.specs.Lookups.{lookup_in, subtables_in, type_in}
 use Rattle.opentype_face.specs.Firsts.{first_from}
 
 -- whether a subtable of a type may add glyphs: one of sequences, or of rules, which apply lookups
@@ -15,4 +14,4 @@ adding lookup i = if may_add (type_in 7 lookup i) then Some i else None
 abbrev pub growth_in : List ℕ → ℕ → ℕ
 growth_in gsub index =
     let lookup = lookup_in gsub index in
-    if is_some (first_from (u16_in lookup 4) (adding lookup) 0) then 65536 else 1
+    if is_some (first_from (subtables_in lookup) (adding lookup) 0) then 65536 else 1

@@ -2,8 +2,7 @@
 use Rattle.std.specs.Prelude.{ℕ, ◌==◌, ◌&&◌, nat_lt, Bool, true, false, is_some, List, length, Option, None, if◌then◌else◌}
 use Rattle.std.specs.Option.{option_map}
 use Rattle.shapers_buffer.specs.Glyphs.{Glyphs}
-use Rattle.opentype_face.specs.Bytes.{u16_in}
-use Rattle.opentype_face.specs.Lookups.{subtable_in, type_in}
+use Rattle.opentype_face.specs.Lookups.{subtable_in, subtables_in, type_in}
 use Rattle.opentype_layout.specs.Looking.{RuleList, all_looked, context_rules, ligatures_in, looked_by, nothing, unjoined}
 use Rattle.opentype_layout.specs.Text.{glyph_at}
 use Rattle.opentype_layout.specs.declared.looking.Stretch.{Stretch}
@@ -34,7 +33,7 @@ nth_comes s sights lookup at gs i = is_some (nth_came s sights lookup at gs (rec
 -- what the subtables of a lookup looked at, up to the first that does something
 unfoldable pub lookup_looked : Setting → Sights → List ℕ → Glyphs → ℕ → Stretch
 lookup_looked s sights lookup gs at =
-    all_looked (u16_in lookup 4) (nth_comes s sights lookup at gs)
+    all_looked (subtables_in lookup) (nth_comes s sights lookup at gs)
     (subtable_looked s sights lookup gs at) 0 (nothing at)
 
 -- a text at a place of which a lookup is tried, where such flags are wanted

@@ -1,7 +1,6 @@
 -- Lookups that put single glyphs in: their subtables add no glyphs, and have no rules.
 use Rattle.std.specs.Prelude.{ℕ, ◌==◌, ◌||◌, ◌<◌, ◌≡◌, Bool, true, List, Option, None, Some}
-use Rattle.opentype_face.specs.Bytes.{u16_in}
-use Rattle.opentype_face.specs.Lookups.{type_in}
+use Rattle.opentype_face.specs.Lookups.{subtables_in, type_in}
 use Rattle.opentype_gsub.specs.declared.machine.Outcome.{Outcome}
 use Rattle.opentype_gsub.specs.declared.machine.Outcome.TheVariants.{Nothing, Done}
 
@@ -11,8 +10,8 @@ is_plain kind = (kind == 1) || ((kind == 3) || (kind == 4))
 
 -- a lookup's table has subtables, and all do
 abbrev pub ArePlain : List ℕ → Type 0
-ArePlain lookup = (0 < u16_in lookup 4)
-    × ((i : ℕ) → i < u16_in lookup 4 → is_plain (type_in 7 lookup i) ≡ true)
+ArePlain lookup = (0 < subtables_in lookup)
+    × ((i : ℕ) → i < subtables_in lookup → is_plain (type_in 7 lookup i) ≡ true)
 
 -- the outcome by the place that the code gives
 abbrev pub outcome_of : Option ℕ → Outcome

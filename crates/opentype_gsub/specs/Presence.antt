@@ -2,9 +2,8 @@
 use Rattle.std.specs.Prelude.{ℕ, ◌-◌, ◌%◌, ◌==◌, ◌||◌, not, Bool, false, bit_and, is_some, List, length, if◌then◌else◌}
 use Rattle.shapers_buffer.specs.Glyphs.{Glyph, Glyphs}
 use Rattle.shapers_buffer.specs.declared.buffer.lookup_record.LookupRecord.{LookupRecord}
-use Rattle.opentype_face.specs.Bytes.{u16_in}
 use Rattle.opentype_face.specs.Firsts.{first_from}
-use Rattle.opentype_face.specs.Lookups.{type_in}
+use Rattle.opentype_face.specs.Lookups.{subtables_in, type_in}
 use Rattle.opentype_layout.specs.Starts.{starting}
 use Rattle.opentype_gsub.specs.Reversed.{lookup_stepped_back, applied_backward}
 use Rattle.opentype_gsub.specs.Setting.{Setting}
@@ -16,7 +15,7 @@ use Rattle.opentype_gsub.specs.declared.pass.LookupUse.{LookupUse}
 unfoldable pub is_left : LookupUse → List ℕ → Glyph → Bool
 is_left use_of lookup g =
     (bit_and g.mask use_of.mask == 0)
-    || not (is_some (first_from (u16_in lookup 4) (starting false lookup (g.glyph_id % 65536)) 0))
+    || not (is_some (first_from (subtables_in lookup) (starting false lookup (g.glyph_id % 65536)) 0))
 
 -- a lookup's table along a text from a place on; one of type 8 from the end
 unfoldable pub applied_from : Setting → List ℕ → ℕ → Glyphs → LookupRecord → Along

@@ -4,7 +4,7 @@ use Rattle.std.specs.Prelude.{ℕ, zero, suc, ◌+◌, ◌*◌, ◌-◌, ◌==�
 use Rattle.std.specs.Option.{option_map}
 use Rattle.shapers_buffer.specs.Glyphs.{Glyphs}
 use Rattle.opentype_face.specs.Bytes.{u16_in, table_at}
-use Rattle.opentype_face.specs.Lookups.{subtable_in, type_in}
+use Rattle.opentype_face.specs.Lookups.{subtable_in, subtables_in, type_in}
 use Rattle.opentype_face.specs.Firsts.{first_from}
 use Rattle.opentype_layout.specs.Pattern.{is_in_sets, is_number}
 use Rattle.opentype_layout.specs.Rules.{Found, Sought, found_at}
@@ -86,7 +86,7 @@ nth_looked_back gdef sights lookup gs at i =
 
 unfoldable pub all_looked_back : List ℕ → Sights → List ℕ → Glyphs → ℕ → Stretch
 all_looked_back gdef sights lookup gs at =
-    all_looked (u16_in lookup 4) (λ i. is_some (nth_reversed gdef sights lookup gs at i))
+    all_looked (subtables_in lookup) (λ i. is_some (nth_reversed gdef sights lookup gs at i))
     (nth_looked_back gdef sights lookup gs at) 0 (nothing at)
 
 unfoldable pub tried_back : Setting → List ℕ → Glyphs → ℕ → Glyphs
@@ -107,7 +107,7 @@ lookup_stepped_back s lookup gs at =
     let sights = sights_of s.gdef s.lookup lookup (glyph_at gs at) in
     let flagged = tried_back s lookup gs at in
     if is_seen s.gdef s.lookup lookup (glyph_at gs at)
-    then with_glyph s.gdef flagged at (first_from (u16_in lookup 4) (nth_reversed s.gdef sights
+    then with_glyph s.gdef flagged at (first_from (subtables_in lookup) (nth_reversed s.gdef sights
     lookup flagged at) 0)
     else gs
 

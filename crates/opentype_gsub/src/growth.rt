@@ -1,7 +1,7 @@
 //! How much longer a lookup makes a text.
 ghost use Rattle.std.specs.Prelude.{◌≡◌};
-ghost use Rattle.opentype_face.specs.Bytes.{u16_in};
 ghost use Rattle.opentype_face.specs.Firsts.{first_from};
+ghost use Rattle.opentype_face.specs.Lookups.{subtables_in};
 ghost use Rattle.opentype_gsub.specs.Growth.{adding, growth_in, may_add};
 
 use opentype_face::lookup::{lookup, subtable_count, subtable_type};
@@ -31,7 +31,7 @@ fn adder(lookup: &[u8], i: u16) -> Option<u16>
 
 // The number of a lookup's first subtable that may add glyphs.
 fn first_adder(lookup: &[u8]) -> Option<u16>
-    ensures { result ≡ first_from (u16_in lookup.now 4) (adding lookup.now) 0 }
+    ensures { result ≡ first_from (subtables_in lookup.now) (adding lookup.now) 0 }
 {
     for i in 0..subtable_count(lookup) {
         let found = adder(lookup, i);

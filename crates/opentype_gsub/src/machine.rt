@@ -2,8 +2,8 @@
 ghost use Rattle.std.specs.Prelude.{◌≡◌, ◌<◌, ◌==◌, ◌⊎◌, ℕ, List, [], ◌∷◌, Some, length, IfOk};
 ghost use Rattle.std.specs.Option.{option_map};
 ghost use Rattle.opentype_layout.specs.Rules.{context_in, found};
-ghost use Rattle.opentype_face.specs.Bytes.{u16_in};
 ghost use Rattle.opentype_face.specs.Firsts.{first_from};
+ghost use Rattle.opentype_face.specs.Lookups.{subtables_in};
 ghost use Rattle.opentype_gsub.specs.Applied.{two_byte_number};
 ghost use Rattle.opentype_gsub.specs.Came.{IsCome, begun, came_in, frame_of, nth_came};
 ghost use Rattle.opentype_gsub.specs.Machine.{IsEnded, lookup_called, deeper, nested, ran, machine_stepped, stack_left, waiting, waiting_frame};
@@ -118,7 +118,7 @@ fn come_among<'a>(
     at: usize,
 ) -> Result<Outcome<'a>, ShaperError>
     requires { at < length text.old }
-    ensures { IfOk result (λ outcome. IsCome (first_from (u16_in lookup.now 4)
+    ensures { IfOk result (λ outcome. IsCome (first_from (subtables_in lookup.now)
         (nth_came (setting_of pass.now) sights.now lookup.now at text.old lookups.old) 0)
         text.old lookups.old text.new lookups.new outcome) }
 {

@@ -1,8 +1,9 @@
 //! Where the places of a rule find their glyphs, and which ligature fits.
 ghost use Rattle.std.specs.Prelude.{◌≡◌, ◌<◌, ◌-◌, ◌+◌, ℕ, Bool, List, true, None, length, IfSome, slice_index};
 ghost use Rattle.std.specs.Option.{option_map};
-ghost use Rattle.opentype_face.specs.Bytes.{table_at, u16_in};
+ghost use Rattle.opentype_face.specs.Bytes.{table_at};
 ghost use Rattle.opentype_face.specs.Firsts.{first_from};
+ghost use Rattle.opentype_face.specs.Lookups.{rule_count_in};
 ghost use Rattle.opentype_gsub.specs.Ligatures.{nth_ligature, ligature_of};
 ghost use Rattle.opentype_layout.specs.Keys.{bars};
 ghost use Rattle.opentype_layout.specs.Pattern.{fits, next_in};
@@ -10,6 +11,7 @@ ghost use Rattle.opentype_layout.specs.declared.sight.Sight.{Sight};
 ghost use Rattle.shapers_buffer.specs.Glyphs.{Glyphs};
 
 use opentype_face::bytes::{table_at, u16_at};
+use opentype_face::lookup::rule_count;
 use opentype_layout::glyph_text::GlyphView;
 use opentype_layout::input::find_input;
 use opentype_layout::keys::{Key, key_behind};
@@ -82,10 +84,10 @@ pub fn first_fitting(
     ensures within { IfSome result (λ it. (j : ℕ) → j < length it.places.items →
         slice_index it.places.items j < length glyphs.now) }
     ensures value { option_map (λ it. (it.glyph, it.places.items)) result
-        ≡ first_from (u16_in set.now 0) (nth_ligature gdef.now sight.now glyphs.now at set.now) 0 }
+        ≡ first_from (rule_count_in set.now) (nth_ligature gdef.now sight.now glyphs.now at set.now) 0 }
 {
     let key = key_behind(gdef, sight, glyphs, glyphs.after(at));
-    for i in 0..u16_at(set, 0) {
+    for i in 0..rule_count(set) {
         let offset = usize::from(u16_at(set, 2 + usize::from(i) * 2));
         if is_barred(&key, set, offset) {
             continue;

@@ -1,8 +1,7 @@
 //! Lookups that add no glyphs and have no rules, in the buffer's own list.
 ghost use Rattle.std.specs.Prelude.{◌≡◌, ◌<◌, ◌≤◌, true, false, length, unwrap_or, IfSome, []};
-ghost use Rattle.opentype_face.specs.Bytes.{u16_in};
 ghost use Rattle.opentype_face.specs.Firsts.{first_from};
-ghost use Rattle.opentype_face.specs.Lookups.{type_in};
+ghost use Rattle.opentype_face.specs.Lookups.{subtables_in, type_in};
 ghost use Rattle.opentype_gsub.specs.Along.{lookup_stepped};
 ghost use Rattle.opentype_gsub.specs.Applied.{two_byte_number};
 ghost use Rattle.opentype_gsub.specs.Came.{IsCome, came_in, nth_came};
@@ -74,10 +73,10 @@ fn put_by(
 // single one is quickly tried.)
 #[inline]
 fn next_tried(lookup: &LookupTable<'_>, count: u16, glyph: u16, from: u16) -> Option<u16>
-    requires count { count ≡ u16_in lookup.now 4 }
+    requires count { count ≡ subtables_in lookup.now }
     requires from { from < count }
-    ensures within { IfSome result (λ next. (from ≤ next) × (next < u16_in lookup.now 4)) }
-    ensures passed { NoneStarts false lookup.now glyph from (unwrap_or result (u16_in lookup.now 4)) }
+    ensures within { IfSome result (λ next. (from ≤ next) × (next < subtables_in lookup.now)) }
+    ensures passed { NoneStarts false lookup.now glyph from (unwrap_or result (subtables_in lookup.now)) }
 {
     if count == 1 {
         return Some(from);
@@ -98,7 +97,7 @@ fn put_among(
     requires here { at < length text.old }
     requires plain { ArePlain lookup.now }
     ensures { (sights : Sights) → sights.input ≡ sight.now →
-        IsCome (first_from (u16_in lookup.now 4)
+        IsCome (first_from (subtables_in lookup.now)
         (nth_came (setting_of pass.now) sights lookup.now at text.old lookups.old) 0)
         text.old lookups.old text.new lookups.new (outcome_of result) }
 {

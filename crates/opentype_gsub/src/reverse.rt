@@ -1,7 +1,7 @@
 //! Type 8: one glyph for one by the glyphs around it, from the end of the text to its start.
 ghost use Rattle.std.specs.Prelude.{◌≡◌, ◌<◌, length};
-ghost use Rattle.opentype_face.specs.Bytes.{u16_in};
 ghost use Rattle.opentype_face.specs.Firsts.{first_from};
+ghost use Rattle.opentype_face.specs.Lookups.{subtables_in};
 ghost use Rattle.opentype_layout.specs.Rules.{sought};
 ghost use Rattle.opentype_gsub.specs.Reversed.{all_looked_back, around_in, is_replaced, nth_looked_back, reverse_looked, tried_back, glyphs_at, nth_reversed, reversed_in, lookup_stepped_back, applied_backward};
 ghost use Rattle.opentype_gsub.specs.Decided.{covered_in};
@@ -227,7 +227,7 @@ fn first(
     at: usize,
 ) -> Option<Reversal>
     requires { at < length glyphs.now }
-    ensures { result ≡ first_from (u16_in lookup.now 4)
+    ensures { result ≡ first_from (subtables_in lookup.now)
         (nth_reversed gdef.now sights.now lookup.now glyphs.now at) 0 }
 {
     for i in 0..subtable_count(lookup) {

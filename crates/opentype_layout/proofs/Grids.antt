@@ -6,7 +6,7 @@ use Rattle.std.proofs.lemmas.Nat.{mul-le}
 use Rattle.std.proofs.lemmas.Nat.Bits.{bit_at-lt}
 use Rattle.opentype_face.specs.Bytes.{u16_in}
 use Rattle.opentype_face.specs.Glyphs.{coverage_in, ranges_in}
-use Rattle.opentype_face.specs.Lookups.{subtable_in, type_in}
+use Rattle.opentype_face.specs.Lookups.{subtable_in, subtables_in, type_in}
 use Rattle.opentype_face.specs.Ranges.{bisect}
 use Rattle.opentype_layout.specs.Bits.{Grown, IsClear, bit_in}
 use Rattle.opentype_layout.specs.Starts.{IsStarts, LeavesOut, LeavesRange, NoneStarts, extension_type, first_set_in, has_row, place_in, starting}
@@ -198,13 +198,13 @@ none_clear of_gpos lookup count grid words glyph from row place s is le c = reco
 
 pub none_clear_all : (of_gpos : Bool) (lookup : List ℕ) (count : ℕ) (grid : Grid) (words : List ℕ) (glyph from row place : ℕ) →
     IsStarts of_gpos lookup count grid words → row ≡ place_in grid glyph 0 → place ≡ row + count →
-    IsClear words (row + from) place → NoneStarts of_gpos lookup glyph from (u16_in lookup 4)
+    IsClear words (row + from) place → NoneStarts of_gpos lookup glyph from (subtables_in lookup)
 none_clear_all of_gpos lookup count grid words glyph from row place s is all c =
-    let e : place - row ≡ u16_in lookup 4 = omega (arith, s.counted) in
+    let e : place - row ≡ subtables_in lookup = omega (arith, s.counted) in
     rw e at (none_clear of_gpos lookup count grid words glyph from row place s is (omega arith) c)
 
 pub none_outside : (of_gpos : Bool) (lookup : List ℕ) (count : ℕ) (grid : Grid) (words : List ℕ) (glyph from : ℕ) →
-    IsStarts of_gpos lookup count grid words → has_row grid glyph ≡ false → NoneStarts of_gpos lookup glyph from (u16_in lookup 4)
+    IsStarts of_gpos lookup count grid words → has_row grid glyph ≡ false → NoneStarts of_gpos lookup glyph from (subtables_in lookup)
 none_outside of_gpos lookup count grid words glyph from s out = record {
   none = λ i a b. (s.out i (omega (arith, s.counted))).out glyph (λ has. absurd (cc));
 }

@@ -6,6 +6,7 @@ use Rattle.shapers_buffer.specs.Glyphs.{Glyphs}
 use Rattle.shapers_buffer.specs.GlyphFlags.{unsafe_to_concat_in}
 use Rattle.opentype_face.specs.Bytes.{u16_in, table_at}
 use Rattle.opentype_face.specs.Glyphs.{class_in, coverage_in}
+use Rattle.opentype_face.specs.Lookups.{rule_count_in}
 use Rattle.opentype_layout.specs.Ligatures.{input_in}
 use Rattle.opentype_layout.specs.Pattern.{is_number, next_in, previous_in, seen_by}
 use Rattle.opentype_layout.specs.Rules.{Kind, Sought, first_at, found_at, kind, kind_in, rule_in, set_in, sets_at}
@@ -119,13 +120,13 @@ pub record RuleList : Type 0 where
 
 abbrev pub ligatures_in : List ℕ → RuleList
 ligatures_in set = record {
-  count = u16_in set 0;
+  count = rule_count_in set;
   rule = λ i. ligature_sought (nth_part set i);
 }
 
 abbrev pub entries_in : Kind → List ℕ → RuleList
 entries_in tables set = record {
-  count = u16_in set 0;
+  count = rule_count_in set;
   rule = λ i. rule_in tables (nth_part set i);
 }
 

@@ -1,8 +1,7 @@
 -- For each glyph a row of bits: the lookups of GSUB, or of GPOS, that may begin at the glyph.
 use Rattle.std.specs.Prelude.{ℕ, ◌+◌, ◌*◌, ◌%◌, ◌<◌, ◌≡◌, Bool, List, [], ◌∷◌, length, slice_index_or}
 use Rattle.shapers_buffer.specs.Glyphs.{Glyphs}
-use Rattle.opentype_face.specs.Bytes.{u16_in}
-use Rattle.opentype_face.specs.Lookups.{lookup_in}
+use Rattle.opentype_face.specs.Lookups.{lookup_in, subtables_in}
 use Rattle.opentype_layout.specs.Bits.{bit_in}
 use Rattle.opentype_layout.specs.Starts.{NoneStarts}
 use Rattle.opentype_layout.specs.Text.{glyph_at}
@@ -18,7 +17,7 @@ lookup_bit bits index = bit_in (bits.low ∷ bits.high ∷ []) index
 
 -- a lookup of GSUB or of GPOS, by its table, doesn't begin at a glyph
 abbrev pub BeginsNot : Bool → List ℕ → ℕ → Type 0
-BeginsNot of_gpos lookup glyph = NoneStarts of_gpos lookup glyph 0 (u16_in lookup 4)
+BeginsNot of_gpos lookup glyph = NoneStarts of_gpos lookup glyph 0 (subtables_in lookup)
 
 -- each of the first lookups, up to one, begins at no glyph in whose row its bit isn't set
 pub record AreMarked (of_gpos : Bool) (lookups : List (List ℕ)) (words : List ℕ) (end : ℕ) :

@@ -10,6 +10,7 @@ use Rattle.opentype_layout.specs.declared.rules.Rule.{Rule}
 use Rattle.opentype_layout.specs.declared.rules.Tables.{Tables}
 use Rattle.opentype_layout.specs.declared.sight.Sight.{Sight}
 use Rattle.opentype_face.specs.Firsts.{first_from}
+use Rattle.opentype_face.specs.Lookups.{rule_count_in}
 use Rattle.opentype_layout.specs.Ligatures.{input_in}
 use Rattle.opentype_layout.specs.Pattern.{fits, is_in_sets, is_number, next_in, previous_in}
 use Rattle.opentype_layout.specs.Text.{glyph_at}
@@ -190,7 +191,7 @@ nth_in gdef input context kind set gs at i =
 -- the first rule of a set that fits
 unfoldable pub first_in : List ℕ → Sight → Sight → Kind → List ℕ → Glyphs → ℕ → Option Found
 first_in gdef input context kind set gs at =
-    first_from (u16_in set 0) (nth_in gdef input context kind set gs at) 0
+    first_from (rule_count_in set) (nth_in gdef input context kind set gs at) 0
 
 -- ---- contexts
 

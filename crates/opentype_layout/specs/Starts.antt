@@ -3,7 +3,7 @@ use Rattle.std.specs.Prelude.{ℕ, ◌+◌, ◌-◌, ◌*◌, ◌%◌, ◌==◌,
 use Rattle.shapers_buffer.specs.Glyphs.{Glyph, Glyphs}
 use Rattle.opentype_face.specs.Bytes.{u16_in, table_at}
 use Rattle.opentype_face.specs.Glyphs.{coverage_in}
-use Rattle.opentype_face.specs.Lookups.{lookup_in, subtable_in, type_in}
+use Rattle.opentype_face.specs.Lookups.{lookup_in, subtable_in, subtables_in, type_in}
 use Rattle.opentype_layout.specs.Bits.{bit_in}
 use Rattle.opentype_layout.specs.Rules.{first_at}
 use Rattle.opentype_layout.specs.Text.{glyph_at}
@@ -72,7 +72,7 @@ LeavesRange grid words i from to =
 -- the bits of a lookup's subtables: each begins at no glyph that is left out
 pub record IsStarts (of_gpos : Bool) (lookup : List ℕ) (count : ℕ) (grid : Grid)
     (words : List ℕ) : Type 0 where
-  pub counted : count ≡ u16_in lookup 4
+  pub counted : count ≡ subtables_in lookup
   pub wide : count ≤ grid.width
   pub narrow : grid.width ≤ 65536
   pub room : HasRoom grid words
@@ -93,7 +93,7 @@ IsUnset first heads glyph = first ≤ glyph → bit_in heads (glyph - first) ≡
 -- a lookup begins at no glyph whose bit isn't set
 pub record AreHeads (of_gpos : Bool) (lookup : List ℕ) (first : ℕ) (heads : List ℕ) : Type 0 where
   pub out : (glyph : ℕ) → IsUnset first heads glyph →
-      NoneStarts of_gpos lookup glyph 0 (u16_in lookup 4)
+      NoneStarts of_gpos lookup glyph 0 (subtables_in lookup)
 
 -- a glyph has no bit of a mask, or its own bit isn't set
 abbrev pub IsBare : ℕ → List ℕ → ℕ → Glyph → Type 0
@@ -127,7 +127,7 @@ pub record AreOutside (set : List ℕ) (mask : ℕ) (gs : Glyphs) (from end : �
 -- a glyph has no bit of a lookup's mask, or the lookup doesn't begin at the glyph
 abbrev pub IsPassed : Bool → List ℕ → ℕ → Glyph → Type 0
 IsPassed of_gpos lookup mask g =
-    (bit_and g.mask mask ≡ 0) ⊎ NoneStarts of_gpos lookup (g.glyph_id % 65536) 0 (u16_in lookup 4)
+    (bit_and g.mask mask ≡ 0) ⊎ NoneStarts of_gpos lookup (g.glyph_id % 65536) 0 (subtables_in lookup)
 
 -- so are the glyphs from one place on, and before another
 pub record ArePassed (of_gpos : Bool) (lookup : List ℕ) (mask : ℕ) (gs : Glyphs) (from end : ℕ) :

@@ -1,7 +1,7 @@
 //! A bit for each glyph and each subtable of a lookup.
 ghost use Rattle.std.specs.Prelude.{◌≡◌, ◌<◌, ◌≤◌, ◌+◌, ◌*◌, ◌^◌, ℕ, true, length, None};
-ghost use Rattle.opentype_face.specs.Bytes.{u16_in};
 ghost use Rattle.opentype_face.specs.Glyphs.{ranges_in};
+ghost use Rattle.opentype_face.specs.Lookups.{subtables_in};
 ghost use Rattle.opentype_layout.specs.Bits.{Grown, bit_in};
 ghost use Rattle.opentype_layout.specs.Starts.{HasRoom, LeavesOut, LeavesRange, has_row, place_in, starting};
 
@@ -130,10 +130,10 @@ impl Grid {
 
     /// Sets the bits of a lookup's subtables, if all glyphs that they begin with have a row.
     pub(crate) fn mark_lookup(&self, words: &mut [u64], of_gpos: bool, lookup: &[u8]) -> bool
-        requires columns { u16_in lookup.now 4 ≤ self.now.width }
+        requires columns { subtables_in lookup.now ≤ self.now.width }
         requires room { HasRoom self.now words.old }
         ensures len { length words.new ≡ length words.old }
-        ensures out { result ≡ true → (i : ℕ) → i < u16_in lookup.now 4 →
+        ensures out { result ≡ true → (i : ℕ) → i < subtables_in lookup.now →
             LeavesOut self.now words.new i (λ glyph. starting of_gpos lookup.now glyph i ≡ None) }
     {
         for i in 0..subtable_count(lookup) {

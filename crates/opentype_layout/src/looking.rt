@@ -17,6 +17,7 @@ use crate::rules::{Rule, Tables};
 use crate::sight::{Sight, number};
 use opentype_face::bytes::{table_at, u16_at};
 use opentype_face::glyph_sets::coverage;
+use opentype_face::lookup::rule_count;
 use shapers_buffer::buffer::{BufferFlags, hb_glyph_info_t, unsafe_to_concat_in};
 
 /// A stretch of a text, from a place up to another one.
@@ -295,8 +296,8 @@ impl<'a> RuleSet<'a> {
         ensures { result ≡ (rule_list self.now).count }
     {
         match *self {
-            RuleSet::Ligatures(set) => u16_at(set, 0),
-            RuleSet::Rules(_, set) => u16_at(set, 0),
+            RuleSet::Ligatures(set) => rule_count(set),
+            RuleSet::Rules(_, set) => rule_count(set),
             RuleSet::One(_, _) => 1,
         }
     }

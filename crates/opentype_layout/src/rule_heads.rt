@@ -5,6 +5,7 @@ ghost use Rattle.opentype_layout.specs.RuleHeads.{AreRuleHeads, head_in};
 
 use crate::budget::paid_for;
 use opentype_face::bytes::{table_at, u16_at};
+use opentype_face::lookup::rule_count;
 use std::alloc::Global;
 use std::marker::Model;
 
@@ -88,7 +89,7 @@ pub(crate) fn nth(set: &[u8], i: u16) -> &[u8]
 fn heads_of(alloc: Global, chained: bool, set: &[u8], budget: &mut usize) -> Vec<RuleHead>
     ensures { AreRuleHeads chained set.now result.items }
 {
-    let count = paid_for(u16_at(set, 0), HEAD_COST, budget);
+    let count = paid_for(rule_count(set), HEAD_COST, budget);
     let Ok(mut heads) = Vec::with_capacity(alloc, usize::from(count)) else {
         return Vec::new(alloc);
     };
@@ -162,7 +163,7 @@ impl<'a> PreparedRules<'a> {
         PreparedRules {
             bytes,
             chained,
-            asked: Asked::by(&heads, u16_at(bytes, 0)),
+            asked: Asked::by(&heads, rule_count(bytes)),
             heads,
         }
     }

@@ -18,6 +18,7 @@ use crate::sets::{place_in_set, place_of_first};
 use crate::sight::{Sight, number};
 use opentype_face::bytes::{table_at, u16_at};
 use opentype_face::glyph_tables::PreparedCoverage;
+use opentype_face::lookup::rule_count;
 
 /// What a rule looks for, and the records of the lookups that it applies.
 #[derive(Clone, Copy, Debug)]
@@ -526,7 +527,7 @@ impl<'a> Tables<'a> {
             ≡ first_in gdef.now input.now context.now (kind self.now) set.now glyphs.now at }
     {
         // (most classes of a font have no rule)
-        let count = u16_at(set, 0);
+        let count = rule_count(set);
         if count == 0 {
             return None;
         }

@@ -1,7 +1,7 @@
 //! Which subtables of a lookup may begin at a glyph.
 ghost use Rattle.std.specs.Prelude.{◌≡◌, ◌<◌, ◌≤◌, List, ℕ, false, true, length, min, IfSome, unwrap_or};
 ghost use Rattle.opentype_face.specs.Bytes.{u16_in};
-ghost use Rattle.opentype_face.specs.Lookups.{subtable_in, type_in};
+ghost use Rattle.opentype_face.specs.Lookups.{subtable_in, subtables_in, type_in};
 ghost use Rattle.opentype_layout.specs.Bits.{Grown};
 ghost use Rattle.opentype_layout.specs.LookupRows.{BeginsNot, row_bit};
 ghost use Rattle.opentype_layout.specs.PairTables.{ArePairTables};
@@ -78,7 +78,7 @@ fn span(of_gpos: bool, lookup: &[u8], budget: &mut usize) -> Option<GlyphRange> 
 // The bits of a lookup's subtables, if memory and a budget suffice.
 fn mark(alloc: Global, of_gpos: bool, lookup: &[u8], budget: &mut usize) -> Option<Marks>
     ensures { IfSome result (λ it.
-        IsStarts of_gpos lookup.now (u16_in lookup.now 4) it.grid it.words.items) }
+        IsStarts of_gpos lookup.now (subtables_in lookup.now) it.grid it.words.items) }
 {
     let glyphs = span(of_gpos, lookup, budget)?;
     let grid = Grid::of(&glyphs, subtable_count(lookup));
@@ -108,7 +108,7 @@ fn mark_with_heads(
     budget: &mut usize,
 ) -> Option<HeadedMarks>
     ensures starts { IfSome result (λ it.
-        IsStarts of_gpos lookup.now (u16_in lookup.now 4) it.marks.grid it.marks.words.items) }
+        IsStarts of_gpos lookup.now (subtables_in lookup.now) it.marks.grid it.marks.words.items) }
     ensures heads { IfSome result (λ it.
         AreHeads of_gpos lookup.now it.marks.grid.first it.heads.items) }
 {
@@ -138,7 +138,7 @@ impl<'a> Model for Starts<'a> {
 
     ghost view = { λ it. it.lookup.now };
 
-    ghost invariant = { λ it. (it.count ≡ u16_in it.lookup.now 4) ×
+    ghost invariant = { λ it. (it.count ≡ subtables_in it.lookup.now) ×
         ((it.is_made ≡ true → IsStarts it.of_gpos it.lookup.now it.count it.grid it.words.items) ×
         (it.is_made ≡ true → AreHeads it.of_gpos it.lookup.now it.grid.first it.heads.items)) };
 }
@@ -221,9 +221,9 @@ impl<'a> Starts<'a> {
     /// The first subtable from one on that may begin at a glyph.
     #[inline]
     pub fn next(&self, of_gpos: bool, glyph: u16, from: u16) -> Option<u16>
-        ensures within { IfSome result (λ next. (from ≤ next) × (next < u16_in self.now 4)) }
+        ensures within { IfSome result (λ next. (from ≤ next) × (next < subtables_in self.now)) }
         ensures passed { NoneStarts of_gpos self.now glyph from
-            (unwrap_or result (u16_in self.now 4)) }
+            (unwrap_or result (subtables_in self.now)) }
     {
         if from >= self.count {
             return None;
@@ -269,9 +269,9 @@ impl<'a> Starts<'a> {
 // ask bits where a face is prepared.)
 #[inline(never)]
 fn search_start(of_gpos: bool, lookup: &[u8], glyph: u16, from: u16) -> Option<u16>
-    ensures within { IfSome result (λ next. (from ≤ next) × (next < u16_in lookup.now 4)) }
+    ensures within { IfSome result (λ next. (from ≤ next) × (next < subtables_in lookup.now)) }
     ensures passed { NoneStarts of_gpos lookup.now glyph from
-        (unwrap_or result (u16_in lookup.now 4)) }
+        (unwrap_or result (subtables_in lookup.now)) }
 {
     for i in from..subtable_count(lookup) {
         if start(of_gpos, lookup, glyph, i).is_some() {
@@ -283,7 +283,7 @@ fn search_start(of_gpos: bool, lookup: &[u8], glyph: u16, from: u16) -> Option<u
 
 // Whether a subtable may begin at a glyph, by its bytes.
 fn is_start(of_gpos: bool, lookup: &[u8], glyph: u16) -> bool
-    ensures { result ≡ false → NoneStarts of_gpos lookup.now glyph 0 (u16_in lookup.now 4) }
+    ensures { result ≡ false → NoneStarts of_gpos lookup.now glyph 0 (subtables_in lookup.now) }
 {
     search_start(of_gpos, lookup, glyph, 0).is_some()
 }
@@ -373,7 +373,7 @@ impl<'a> Model for LookupTable<'a> {
 
     ghost view = { λ it. it.bytes.now };
 
-    ghost invariant = { λ it. (it.count ≡ u16_in it.bytes.now 4) ×
+    ghost invariant = { λ it. (it.count ≡ subtables_in it.bytes.now) ×
         (IfSome it.starts (λ starts. starts.now ≡ it.bytes.now) ×
         (ArePairTables it.bytes.now it.pairs.now ×
         (ArePositions it.bytes.now it.positions.now ×
@@ -473,7 +473,7 @@ impl<'a> LookupTable<'a> {
     /// Whether a subtable may begin at a glyph, of a lookup of GSUB or of GPOS.
     #[inline]
     pub fn may_begin(&self, of_gpos: bool, glyph: u16) -> bool
-        ensures { result ≡ false → NoneStarts of_gpos self.now glyph 0 (u16_in self.now 4) }
+        ensures { result ≡ false → NoneStarts of_gpos self.now glyph 0 (subtables_in self.now) }
     {
         match self.starts {
             Some(starts) => starts.next(of_gpos, glyph, 0).is_some(),
@@ -485,9 +485,9 @@ impl<'a> LookupTable<'a> {
     /// there.
     #[inline]
     pub fn next_start(&self, of_gpos: bool, glyph: u16, from: u16) -> Option<u16>
-        ensures within { IfSome result (λ next. (from ≤ next) × (next < u16_in self.now 4)) }
+        ensures within { IfSome result (λ next. (from ≤ next) × (next < subtables_in self.now)) }
         ensures passed { NoneStarts of_gpos self.now glyph from
-            (unwrap_or result (u16_in self.now 4)) }
+            (unwrap_or result (subtables_in self.now)) }
     {
         if let Some(starts) = self.starts {
             return starts.next(of_gpos, glyph, from);

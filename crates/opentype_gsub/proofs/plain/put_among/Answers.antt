@@ -1,5 +1,5 @@
 use Rattle.std.proofs.Common.{ap, arith, length, refl}
-use Rattle.opentype_face.specs.Bytes.{u16_in}
+use Rattle.opentype_face.specs.Lookups.{subtables_in}
 use Rattle.opentype_gsub.specs.Came.{nth_came}
 use Rattle.opentype_gsub.specs.Setting.{setting_of}
 use Rattle.opentype_gsub.specs.declared.pass.Sights.{Sights}
@@ -30,7 +30,7 @@ returns-in-Some-put_by c = λ sights is. (
     let within = c.in-Some.ensures.within in
     let started = coming_started (setting_of c.args.pass.now) sights c.args.lookup.now c.args.at _ _ c.in-Some.i _ _ _ _ _
     (c.loop-from.invariant sights is) c.in-Some.ensures.passed (rw c.at.ensures.glyph at c.number-glyph.ensures) within.0 (omega (arith, within.1)) in
-    coming_done (nth_came (setting_of c.args.pass.now) sights c.args.lookup.now c.args.at) (u16_in c.args.lookup.now 4) c.in-Some.i
+    coming_done (nth_came (setting_of c.args.pass.now) sights c.args.lookup.now c.args.at) (subtables_in c.args.lookup.now) c.in-Some.i
     c.args.text.now c.loop-from.text c.put_by.new.text c.args.lookups.now c.loop-from.lookups
     c.put_by.new.lookups c.in-Some-put_by.next started within.1 (c.in-Some-put_by.ensures sights is))
 
@@ -39,7 +39,7 @@ loop-from-preserved c = λ sights is. (
     let within = c.in-Some.ensures.within in
     let started = coming_started (setting_of c.args.pass.now) sights c.args.lookup.now c.args.at _ _ c.in-Some.i _ _ _ _ _
     (c.loop-from.invariant sights is) c.in-Some.ensures.passed (rw c.at.ensures.glyph at c.number-glyph.ensures) within.0 (omega (arith, within.1)) in
-    coming_next (nth_came (setting_of c.args.pass.now) sights c.args.lookup.now c.args.at) (u16_in c.args.lookup.now 4) c.in-Some.i
+    coming_next (nth_came (setting_of c.args.pass.now) sights c.args.lookup.now c.args.at) (subtables_in c.args.lookup.now) c.in-Some.i
     c.args.text.now c.loop-from.text c.put_by.new.text c.args.lookups.now c.loop-from.lookups
     c.put_by.new.lookups started within.1 (c.in-None.ensures sights is))
 

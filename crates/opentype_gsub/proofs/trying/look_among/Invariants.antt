@@ -1,11 +1,11 @@
-use Rattle.opentype_face.specs.Bytes.{u16_in}
 use Rattle.opentype_layout.specs.Looking.{nothing}
 use Rattle.opentype_gsub.specs.Looked.{nth_comes, subtable_looked}
 use Rattle.opentype_gsub.specs.Setting.{setting_of}
 use Rattle.opentype_layout.proofs.Lookings.{IsLooking}
 use Rattle.opentype_gsub.proofs.trying.look_among.Given as goal
+use Rattle.opentype_face.specs.Lookups.{subtables_in}
 
 abbrev pub invariant-loop-i : goal.invariant-loop-i
 invariant-loop-i l =
     IsLooking (nth_comes (setting_of l.pass) l.sights l.lookup l.at l.glyphs)
-    (subtable_looked (setting_of l.pass) l.sights l.lookup l.glyphs l.at) (u16_in l.lookup 4) (nothing l.at) l.i l.looked
+    (subtable_looked (setting_of l.pass) l.sights l.lookup l.glyphs l.at) (subtables_in l.lookup) (nothing l.at) l.i l.looked

@@ -26,22 +26,47 @@ pub fn lookup(table: &[u8], index: u16) -> &[u8] {
     table_at(list, offset16(list, 2 + usize::from(index) * 2))
 }
 
-/// How many subtables a lookup has.
+/// How many of a lookup's subtables are read at most. Real fonts have a few hundred; a font whose bytes
+/// are spoilt could claim 65,535, which would be looked at for each glyph.
+const MOST_SUBTABLES: u16 = 4096;
+
+/// How many subtables a lookup has, those behind the first 4,096 left out.
 ///
 /// <details><summary>Contract</summary>
 ///
 /// # Contract
 ///
 /// ```text
-/// ensures { result ≡ u16_in lookup.now 4 }
+/// ensures { result ≡ subtables_in lookup.now }
 /// ```
 ///
-/// - `u16_in`: `crates/opentype_face/specs/Bytes.antt`
+/// - `subtables_in`: `crates/opentype_face/specs/Lookups.antt`
 ///
 /// </details>
 #[inline]
 pub fn subtable_count(lookup: &[u8]) -> u16 {
-    u16_at(lookup, 4)
+    u16_at(lookup, 4).min(MOST_SUBTABLES)
+}
+
+/// How many rules of a set are read at most, and how many ligatures of one.
+const MOST_RULES: u16 = 4096;
+
+/// How many rules or ligatures a set has, those behind the first 4,096 left out.
+///
+/// <details><summary>Contract</summary>
+///
+/// # Contract
+///
+/// ```text
+/// ensures { result ≡ rule_count_in set.now }
+/// ```
+///
+/// - `rule_count_in`: `crates/opentype_face/specs/Lookups.antt`
+///
+/// </details>
+#[inline]
+pub fn rule_count(set: &[u8]) -> u16 {
+    u16_at(set, 0).min(MOST_RULES)
 }
 
 /// A lookup's flag.

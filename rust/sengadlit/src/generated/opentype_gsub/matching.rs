@@ -3,6 +3,7 @@
 //! Where the places of a rule find their glyphs, and which ligature fits.
 
 use crate::generated::opentype_face::bytes::{table_at, u16_at};
+use crate::generated::opentype_face::lookup::rule_count;
 use crate::generated::opentype_layout::glyph_text::GlyphView;
 use crate::generated::opentype_layout::input::find_input;
 use crate::generated::opentype_layout::keys::{Key, key_behind};
@@ -61,11 +62,11 @@ fn fit_ligature(
 /// ensures within { IfSome result (λ it. (j : ℕ) → j < length it.places.items →
 ///     slice_index it.places.items j < length glyphs.now) }
 /// ensures value { option_map (λ it. (it.glyph, it.places.items)) result
-///     ≡ first_from (u16_in set.now 0) (nth_ligature gdef.now sight.now glyphs.now at set.now) 0 }
+///     ≡ first_from (rule_count_in set.now) (nth_ligature gdef.now sight.now glyphs.now at set.now) 0 }
 /// ```
 ///
-/// - `u16_in`: `crates/opentype_face/specs/Bytes.antt`
 /// - `first_from`: `crates/opentype_face/specs/Firsts.antt`
+/// - `rule_count_in`: `crates/opentype_face/specs/Lookups.antt`
 /// - `nth_ligature`: `crates/opentype_gsub/specs/Ligatures.antt`
 ///
 /// </details>
@@ -77,7 +78,7 @@ pub fn first_fitting(
     at: usize,
 ) -> Option<Fitting> {
     let key = key_behind(gdef, sight, glyphs, glyphs.after(at));
-    for i in 0..u16_at(set, 0) {
+    for i in 0..rule_count(set) {
         let offset = usize::from(u16_at(set, 2 + usize::from(i) * 2));
         if is_barred(&key, set, offset) {
             continue;

@@ -6,6 +6,7 @@ use crate::support::prelude::*;
 
 use crate::generated::opentype_face::bytes::{table_at, u16_at};
 use crate::generated::opentype_face::glyph_sets::coverage;
+use crate::generated::opentype_face::lookup::rule_count;
 use crate::generated::opentype_layout::glyph_text::GlyphView;
 use crate::generated::opentype_layout::input::find_input;
 use crate::generated::opentype_layout::pattern::Pattern;
@@ -322,8 +323,8 @@ impl<'a> RuleSet<'a> {
     // How many rules there are.
     fn count(&self) -> u16 {
         match *self {
-            RuleSet::Ligatures(set) => u16_at(set, 0),
-            RuleSet::Rules(_, set) => u16_at(set, 0),
+            RuleSet::Ligatures(set) => rule_count(set),
+            RuleSet::Rules(_, set) => rule_count(set),
             RuleSet::One(_, _) => 1,
         }
     }

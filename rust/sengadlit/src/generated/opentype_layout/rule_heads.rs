@@ -5,6 +5,7 @@
 use crate::support::prelude::*;
 
 use crate::generated::opentype_face::bytes::{table_at, u16_at};
+use crate::generated::opentype_face::lookup::rule_count;
 use crate::generated::opentype_layout::budget::paid_for;
 use crate::support::alloc::Global;
 
@@ -76,7 +77,7 @@ pub(crate) fn nth(set: &[u8], i: u16) -> &[u8] {
 // The heads of a set's first rules. Where a budget in bytes or memory doesn't suffice, there are
 // fewer.
 fn heads_of(alloc: Global, chained: bool, set: &[u8], budget: &mut usize) -> Vec<RuleHead> {
-    let count = paid_for(u16_at(set, 0), HEAD_COST, budget);
+    let count = paid_for(rule_count(set), HEAD_COST, budget);
     let Ok(mut heads) = Vec::with_capacity(alloc, usize::from(count)) else {
         return Vec::new(alloc);
     };
@@ -138,7 +139,7 @@ impl<'a> PreparedRules<'a> {
         PreparedRules {
             bytes,
             chained,
-            asked: Asked::by(&heads, u16_at(bytes, 0)),
+            asked: Asked::by(&heads, rule_count(bytes)),
             heads,
         }
     }

@@ -6,6 +6,7 @@ use crate::support::prelude::*;
 
 use crate::generated::opentype_face::bytes::{table_at, u16_at};
 use crate::generated::opentype_face::glyph_tables::PreparedCoverage;
+use crate::generated::opentype_face::lookup::rule_count;
 use crate::generated::opentype_layout::class_refs::ClassRef;
 use crate::generated::opentype_layout::glyph_text::GlyphView;
 use crate::generated::opentype_layout::input::find_input;
@@ -481,7 +482,7 @@ impl<'a> Tables<'a> {
         at: usize,
     ) -> Option<Matched<'a>> {
         // (most classes of a font have no rule)
-        let count = u16_at(set, 0);
+        let count = rule_count(set);
         if count == 0 {
             return None;
         }

@@ -208,12 +208,12 @@ impl<'a> Starts<'a> {
     /// # Contract
     ///
     /// ```text
-    /// ensures within { IfSome result (λ next. (from ≤ next) × (next < u16_in self.now 4)) }
+    /// ensures within { IfSome result (λ next. (from ≤ next) × (next < subtables_in self.now)) }
     /// ensures passed { NoneStarts of_gpos self.now glyph from
-    ///     (unwrap_or result (u16_in self.now 4)) }
+    ///     (unwrap_or result (subtables_in self.now)) }
     /// ```
     ///
-    /// - `u16_in`: `crates/opentype_face/specs/Bytes.antt`
+    /// - `subtables_in`: `crates/opentype_face/specs/Lookups.antt`
     /// - `NoneStarts`: `crates/opentype_layout/specs/Starts.antt`
     ///
     /// </details>
@@ -499,10 +499,10 @@ impl<'a> LookupTable<'a> {
     /// # Contract
     ///
     /// ```text
-    /// ensures { result ≡ false → NoneStarts of_gpos self.now glyph 0 (u16_in self.now 4) }
+    /// ensures { result ≡ false → NoneStarts of_gpos self.now glyph 0 (subtables_in self.now) }
     /// ```
     ///
-    /// - `u16_in`: `crates/opentype_face/specs/Bytes.antt`
+    /// - `subtables_in`: `crates/opentype_face/specs/Lookups.antt`
     /// - `NoneStarts`: `crates/opentype_layout/specs/Starts.antt`
     ///
     /// </details>
@@ -522,12 +522,12 @@ impl<'a> LookupTable<'a> {
     /// # Contract
     ///
     /// ```text
-    /// ensures within { IfSome result (λ next. (from ≤ next) × (next < u16_in self.now 4)) }
+    /// ensures within { IfSome result (λ next. (from ≤ next) × (next < subtables_in self.now)) }
     /// ensures passed { NoneStarts of_gpos self.now glyph from
-    ///     (unwrap_or result (u16_in self.now 4)) }
+    ///     (unwrap_or result (subtables_in self.now)) }
     /// ```
     ///
-    /// - `u16_in`: `crates/opentype_face/specs/Bytes.antt`
+    /// - `subtables_in`: `crates/opentype_face/specs/Lookups.antt`
     /// - `NoneStarts`: `crates/opentype_layout/specs/Starts.antt`
     ///
     /// </details>
