@@ -14,8 +14,8 @@ use Rattle.opentype_gsub.specs.declared.pass.LookupUse.{LookupUse}
 -- with the glyph.
 unfoldable pub is_left : LookupUse → List ℕ → Glyph → Bool
 is_left use_of lookup g =
-    (bit_and g.mask use_of.mask == 0)
-    || not (is_some (first_from (subtables_in lookup) (starting false lookup (g.glyph_id % 65536)) 0))
+    let starts = starting false lookup (g.glyph_id % 65536) in
+    (bit_and g.mask use_of.mask == 0) || not (is_some (first_from (subtables_in lookup) starts 0))
 
 -- a lookup's table along a text from a place on; one of type 8 from the end
 unfoldable pub applied_from : Setting → List ℕ → ℕ → Glyphs → LookupRecord → Along

@@ -127,7 +127,8 @@ pub record AreOutside (set : List ℕ) (mask : ℕ) (gs : Glyphs) (from end : �
 -- a glyph has no bit of a lookup's mask, or the lookup doesn't begin at the glyph
 abbrev pub IsPassed : Bool → List ℕ → ℕ → Glyph → Type 0
 IsPassed of_gpos lookup mask g =
-    (bit_and g.mask mask ≡ 0) ⊎ NoneStarts of_gpos lookup (g.glyph_id % 65536) 0 (subtables_in lookup)
+    (bit_and g.mask mask ≡ 0)
+    ⊎ NoneStarts of_gpos lookup (g.glyph_id % 65536) 0 (subtables_in lookup)
 
 -- so are the glyphs from one place on, and before another
 pub record ArePassed (of_gpos : Bool) (lookup : List ℕ) (mask : ℕ) (gs : Glyphs) (from end : ℕ) :

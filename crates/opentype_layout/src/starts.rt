@@ -1,6 +1,5 @@
 //! Which subtables of a lookup may begin at a glyph.
 ghost use Rattle.std.specs.Prelude.{◌≡◌, ◌<◌, ◌≤◌, List, ℕ, false, true, length, min, IfSome, unwrap_or};
-ghost use Rattle.opentype_face.specs.Bytes.{u16_in};
 ghost use Rattle.opentype_face.specs.Lookups.{subtable_in, subtables_in, type_in};
 ghost use Rattle.opentype_layout.specs.Bits.{Grown};
 ghost use Rattle.opentype_layout.specs.LookupRows.{BeginsNot, row_bit};

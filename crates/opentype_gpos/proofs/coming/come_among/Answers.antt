@@ -1,4 +1,4 @@
-use Rattle.std.proofs.Common.{◌≡◌, ◌∙◌, List, ℕ, ap, sym, arith}
+use Rattle.std.proofs.Common.{◌≡◌, ◌∙◌, ap, sym, arith}
 use Rattle.opentype_face.proofs.Foremost.{first_out}
 use Rattle.opentype_face.specs.Lookups.{subtables_in}
 use Rattle.opentype_gpos.proofs.Unbegun.{tried_all, tried_found, tried_missed, tried_start}

@@ -1,4 +1,4 @@
-use Rattle.std.proofs.Common.{◌≡◌, ◌∙◌, List, ℕ, ap, arith}
+use Rattle.std.proofs.Common.{◌≡◌, ◌∙◌, ap, arith}
 use Rattle.opentype_face.specs.Lookups.{subtables_in}
 use Rattle.opentype_gpos.specs.Coming.{setting_of}
 use Rattle.opentype_gpos.proofs.Unbegun.{tried_no_pair, tried_out, tried_pair}

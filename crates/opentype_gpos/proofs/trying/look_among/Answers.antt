@@ -1,4 +1,4 @@
-use Rattle.std.proofs.Common.{◌≡◌, ◌∙◌, List, ℕ, ap, arith, sym}
+use Rattle.std.proofs.Common.{◌≡◌, ◌∙◌, ap, arith, sym}
 use Rattle.opentype_face.specs.Lookups.{subtables_in}
 use Rattle.opentype_layout.specs.Looking.{spanned}
 use Rattle.opentype_layout.proofs.Lookings.{looking_fit, looking_next, looking_out, looking_start, some_by}

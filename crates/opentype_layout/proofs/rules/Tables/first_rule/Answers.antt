@@ -7,7 +7,7 @@ use Rattle.opentype_layout.proofs.rules.Tables.first_rule.Goals as goal
 
 pub returns-then-count-eq0 : goal.returns-then-count-eq0
 unfolding first_in first_from
-returns-then-count-eq0 c = rw (sym c.u16_at-count.ensures ∙ c.if-count-eq0.true) refl
+returns-then-count-eq0 c = rw (sym c.rule_count-count.ensures ∙ c.if-count-eq0.true) refl
 
 pub loop-i-init : goal.loop-i-init
 loop-i-init c = first_start _ _
