@@ -70,6 +70,7 @@ piece_of numbered alike level gs part = record {
   level = refl;
   direction = refl;
   script = refl;
+  room = refl;
   positions = refl;
 }
 
@@ -272,6 +273,7 @@ row_marks leaves =
       level = refl;
       direction = refl;
       script = refl;
+      room = refl;
       positions = refl;
     }) in
     let first = as_first any_numbers front (made 0 MonotoneCharacters (marks 65))

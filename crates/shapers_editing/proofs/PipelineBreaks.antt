@@ -87,10 +87,10 @@ unchanged numbered text U is a b run front back cut =
 
 -- SETTINGS of a buffer, which steps leave as they are
 abbrev Settings : Type 0
-Settings = BufferClusterLevel × (Direction × (Option Script × List GlyphPosition))
+Settings = BufferClusterLevel × (Direction × (Option Script × (ℕ × List GlyphPosition)))
 
 settings : Buffer → Settings
-settings b = (b.level, (b.direction, (b.script, b.positions)))
+settings b = (b.level, (b.direction, (b.script, (b.max_len, b.positions))))
 
 still_piece : (numbered : Numbering) (text : Buffer) (part made : Glyphs) (old new : Buffer)
     → settings new ≡ settings old → IsPiece numbered text part old → AreAsIn numbered made new.glyphs
@@ -101,7 +101,8 @@ still_piece numbered text part made old new same piece is = record {
   level = ap (λ (s : Settings). s.0) same ∙ piece.level;
   direction = ap (λ (s : Settings). s.1.0) same ∙ piece.direction;
   script = ap (λ (s : Settings). s.1.1.0) same ∙ piece.script;
-  positions = ap (λ (s : Settings). s.1.1.1) same ∙ piece.positions;
+  room = ap (λ (s : Settings). s.1.1.1.0) same ∙ piece.room;
+  positions = ap (λ (s : Settings). s.1.1.1.1) same ∙ piece.positions;
 }
 
 -- LOOKUPS of a stage
@@ -377,7 +378,8 @@ begun numbered p noted r old so piece same part is =
       level = ap (λ (s : Settings). s.0) all;
       direction = ap (λ (s : Settings). s.1.0) all;
       script = ap (λ (s : Settings). s.1.1.0) all;
-      positions = ap (λ (s : Settings). s.1.1.1) all ∙ so.positions;
+      room = ap (λ (s : Settings). s.1.1.1.0) all;
+      positions = ap (λ (s : Settings). s.1.1.1.1) all ∙ so.positions;
     }
 
 halves_settings : (whole before behind : Buffer) → CutBuffer whole before behind
@@ -440,7 +442,8 @@ reordered_piece numbered alike reordering between b one start none done part is 
       level = ap (λ (s : Settings). s.0) all;
       direction = ap (λ (s : Settings). s.1.0) all;
       script = ap (λ (s : Settings). s.1.1.0) all;
-      positions = ap (λ (s : Settings). s.1.1.1) all ∙ none;
+      room = ap (λ (s : Settings). s.1.1.1.0) all;
+      positions = ap (λ (s : Settings). s.1.1.1.1) all ∙ none;
     }
 
 syllabic_stages : (setup pause : Pause) (by : hb_ot_shape_plan_t → Font → Buffer → Reordering)

@@ -59,13 +59,15 @@ pub record AreAsIn (numbered : Numbering) (part gs : Glyphs) : Type 0 where
   pub glyphs : SameButNumbers gs part
   pub numbers : numbered (ligatures gs) (ligatures part) ≡ true
 
--- a buffer without positions that has such glyphs, and the level, direction and script of the text
+-- A buffer without positions that has such glyphs, and the level, direction and script of the text.
+-- It takes as many glyphs as the text's.
 pub record IsPiece (numbered : Numbering) (text : Buffer) (part : Glyphs) (b : Buffer) :
     Type 0 where
   pub same : AreAsIn numbered part b.glyphs
   pub level : b.level ≡ text.level
   pub direction : b.direction ≡ text.direction
   pub script : b.script ≡ text.script
+  pub room : b.max_len ≡ text.max_len
   pub positions : b.positions ≡ []
 
 -- a step makes of each such buffer one of the other glyphs
