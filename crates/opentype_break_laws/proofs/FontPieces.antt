@@ -32,6 +32,7 @@ use Rattle.opentype_font.specs.Proved.LookupLaws.{substituting_keeps}
 use Rattle.opentype_break_laws.specs.FontPieces.{AtLookups, BeginsNowhere, EachAt, FontLookupsLeavePieces, FontRunsLeavePieces, FontTextsBreak, OneForOneGoesByPieces, PutsOneForOne, GoesByPieces}
 use Rattle.opentype_break_laws.proofs.LigatureModel.{all_back, all_drop, all_front, all_take}
 use Rattle.opentype_break_laws.proofs.LigaturePieces.{ligatures_leave}
+use Rattle.opentype_break_laws.proofs.SequencePieces.{sequences_leave}
 use Rattle.opentype_break_laws.proofs.ByGlyph.{changed, found_by, put_if, substituted_each, value_by}
 
 -- ---- A GLYPH, by whether the lookup sees it and what was found for it
@@ -212,7 +213,10 @@ lookups_leave numbered text gdef gsub lookup b goes = elim goes [
   | inl puts ↦ one_for_one_leaves numbered text gdef gsub lookup b puts
   | inr other ↦ elim other [
     | inl begins ↦ unbegun_leaves numbered text gdef gsub lookup b begins
-    | inr ligates ↦ ligatures_leave numbered ligates.uncompared text gdef gsub lookup b ligates.puts ligates.takes
+    | inr more ↦ elim more [
+      | inl ligates ↦ ligatures_leave numbered ligates.uncompared text gdef gsub lookup b ligates.puts ligates.takes
+      | inr spreads ↦ sequences_leave numbered spreads.compared text gdef gsub lookup b spreads.puts spreads.takes
+    ]
   ]
 ]
 

@@ -6,7 +6,12 @@ pub mod LigatureViews
 pub mod LigatureWalk
 pub mod LigatureBorders
 pub mod LigaturePieces
+pub mod SequenceViews
+pub mod SequenceCuts
+pub mod SequencePieces
 pub mod FontPieces
 pub mod TwoSingles
+pub mod OneAsTwo
 mod OneForOneRows
 mod LigatureFontRows
+mod SequenceRows

@@ -159,13 +159,13 @@ clusters_at [] i = refl
 clusters_at (g ∷ gs) zero = refl
 clusters_at (g ∷ gs) (suc i) = clusters_at gs i
 
-last_at : (g : Glyph) (gs back : Glyphs) → slice_index (clusters (g ∷ (gs ++ back))) (length gs) ≡ last_cluster_of g gs
-last_at g [] back = refl
-last_at g (h ∷ hs) back = last_at h hs back
+pub cluster_in_front : (g : Glyph) (gs back : Glyphs) → slice_index (clusters (g ∷ (gs ++ back))) (length gs) ≡ last_cluster_of g gs
+cluster_in_front g [] back = refl
+cluster_in_front g (h ∷ hs) back = cluster_in_front h hs back
 
-first_at : (front : Glyphs) (h : Glyph) (hs : Glyphs) → slice_index (clusters (front ++ (h ∷ hs))) (length front) ≡ h.cluster
-first_at [] h hs = refl
-first_at (g ∷ gs) h hs = first_at gs h hs
+pub cluster_behind : (front : Glyphs) (h : Glyph) (hs : Glyphs) → slice_index (clusters (front ++ (h ∷ hs))) (length front) ≡ h.cluster
+cluster_behind [] h hs = refl
+cluster_behind (g ∷ gs) h hs = cluster_behind gs h hs
 
 last_above : (g : Glyph) (gs back : Glyphs) → AreRising (g ∷ (gs ++ back))
     → AllByRecursion (λ x. x.cluster ≤ last_cluster_of g gs) (g ∷ gs)
@@ -216,8 +216,8 @@ border_of (g ∷ gs) (h ∷ hs) rising some more clear =
     let whole : Glyphs = (g ∷ gs) ++ (h ∷ hs) in
     let n : length (g ∷ gs) - 1 ≡ length gs = omega arith in
     let before : slice_index (clusters whole) (length (g ∷ gs) - 1) ≡ last_cluster_of g gs =
-    ap (slice_index (clusters whole)) n ∙ last_at g gs (h ∷ hs) in
-    let behind : slice_index (clusters whole) (length (g ∷ gs)) ≡ h.cluster = first_at (g ∷ gs) h hs in
+    ap (slice_index (clusters whole)) n ∙ cluster_in_front g gs (h ∷ hs) in
+    let behind : slice_index (clusters whole) (length (g ∷ gs)) ≡ h.cluster = cluster_behind (g ∷ gs) h hs in
     let le = last_below g gs h hs rising in
     let less : last_cluster_of g gs < h.cluster = strictly (last_cluster_of g gs) h.cluster le
     (λ same. clear.differ (before ∙ same ∙ sym behind)) in
@@ -242,8 +242,8 @@ clear_of (g ∷ gs) (h ∷ hs) some more border =
     let whole : Glyphs = (g ∷ gs) ++ (h ∷ hs) in
     let n : length (g ∷ gs) - 1 ≡ length gs = omega arith in
     let before : slice_index (clusters whole) (length (g ∷ gs) - 1) ≡ last_cluster_of g gs =
-    ap (slice_index (clusters whole)) n ∙ last_at g gs (h ∷ hs) in
-    let behind : slice_index (clusters whole) (length (g ∷ gs)) ≡ h.cluster = first_at (g ∷ gs) h hs in
+    ap (slice_index (clusters whole)) n ∙ cluster_in_front g gs (h ∷ hs) in
+    let behind : slice_index (clusters whole) (length (g ∷ gs)) ≡ h.cluster = cluster_behind (g ∷ gs) h hs in
     let less = last_lower h.cluster g gs border.lower in
     let most : greater whole (length (g ∷ gs)) ≡ h.cluster = ap (λ x. max x (slice_index (clusters whole) (length (g ∷ gs)))) before
     ∙ ap (max (last_cluster_of g gs)) behind ∙ omega (arith, less) in
@@ -348,7 +348,7 @@ begins_by h x xs more false e = record {
   is = ap (λ t. if t then (h ∷ (x ∷ xs)) ∷ more else (h ∷ []) ∷ ((x ∷ xs) ∷ more)) e;
 }
 
-begins_piece : (h : Glyph) (pieces : List Glyphs) → BeginsPiece h (with_in_front h pieces)
+pub begins_piece : (h : Glyph) (pieces : List Glyphs) → BeginsPiece h (with_in_front h pieces)
 begins_piece h [] = record { piece = []; more = []; is = refl }
 begins_piece h ([] ∷ more) = record { piece = []; more = more; is = refl }
 begins_piece h ((x ∷ xs) ∷ more) = begins_by h x xs more (x.syllable == h.syllable) refl

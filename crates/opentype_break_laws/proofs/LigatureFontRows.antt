@@ -75,7 +75,7 @@ piece_of numbered alike level gs part = record {
 }
 
 -- glyphs of a piece that begins with one glyph aren't those of a part that begins with another
-abbrev first_number : Glyphs → ℕ
+abbrev pub first_number : Glyphs → ℕ
 first_number [] = 0
 first_number (g ∷ gs) = g.glyph_id
 
@@ -83,7 +83,7 @@ viewed_first : (gs : Glyphs) → first_number (map unnumbered (order_view (map u
 viewed_first [] = refl
 viewed_first (g ∷ gs) = refl
 
-as_first : (numbered : Numbering) (part gs : Glyphs) → AreAsIn numbered part gs → first_number gs ≡ first_number part
+pub as_first : (numbered : Numbering) (part gs : Glyphs) → AreAsIn numbered part gs → first_number gs ≡ first_number part
 as_first numbered part gs is = sym (viewed_first gs)
     ∙ ap first_number (same_text (order_view (map unlinked gs)) (order_view (map unlinked part)) is.glyphs.0)
     ∙ viewed_first part

@@ -575,7 +575,7 @@ pub record CutFrom (gdef : List ℕ) (fits : Glyphs → FittingLigature) (gs fro
   pub first : (n : ℕ) → length before ≤ n → model gdef fits n before ≡ front
   pub second : (n : ℕ) → length behind ≤ n → model gdef fits n behind ≡ back
 
-split : (xs ys us vs : Glyphs) → xs ++ ys ≡ us ++ vs
+pub split : (xs ys us vs : Glyphs) → xs ++ ys ≡ us ++ vs
     → ((w : Glyphs) × ((us ≡ xs ++ w) × (ys ≡ w ++ vs)))
     ⊎ ((w : Glyphs) × ((0 < length w) × ((xs ≡ us ++ w) × (vs ≡ w ++ ys))))
 split [] ys us vs e = inl (us, (refl, e))

@@ -16,6 +16,7 @@ use Rattle.shapers_plan.specs.declared.ot_map.lookups.Stage.{Stage}
 use Rattle.shapers_plan.specs.declared.ot_map.lookups.StageLookup.{StageLookup}
 use Rattle.opentype_break_laws.specs.OneForOne.{PutOneForOne}
 use Rattle.opentype_break_laws.specs.OrderedTexts.{PutsLigatures, TakesLigatures}
+use Rattle.opentype_break_laws.specs.Sequences.{ComparesNumbers, PutsSequences, TakesSequences}
 
 -- A lookup of a plan puts one glyph for one, by a font's GSUB. Its mask has no glyph flag, as the
 -- masks of features never have.
@@ -38,10 +39,19 @@ pub record LigatesPieces (numbered : Numbering) (text : Buffer) (gsub : List ℕ
   pub takes : TakesLigatures text b
   pub uncompared : (xs ys : List LigProps) → numbered xs ys ≡ true
 
+-- A lookup puts sequences into a text that takes them piece by piece, by whoever compares numbers
+-- of ligatures so that it shows which glyph has one.
+pub record SpreadsPieces (numbered : Numbering) (text : Buffer) (gsub : List ℕ)
+    (lookup : StageLookup) (b : Buffer) : Type 0 where
+  pub puts : PutsSequences gsub lookup
+  pub takes : TakesSequences text gsub lookup b
+  pub compared : ComparesNumbers numbered
+
 -- a lookup that does one of these in a text
 abbrev pub GoesByPieces : Numbering → Buffer → List ℕ → StageLookup → Buffer → Type 0
 GoesByPieces numbered text gsub lookup b = PutsOneForOne gsub lookup
-    ⊎ (BeginsNowhere gsub lookup b ⊎ LigatesPieces numbered text gsub lookup b)
+    ⊎ (BeginsNowhere gsub lookup b ⊎ (LigatesPieces numbered text gsub lookup b
+    ⊎ SpreadsPieces numbered text gsub lookup b))
 
 -- Such a lookup leaves the pieces' results of the text side by side, whatever flags the pieces
 -- want.

@@ -13,9 +13,9 @@ two_singles = (0 ∷ 1 ∷ 0 ∷ 0 ∷ 0 ∷ 0 ∷ 0 ∷ 0 ∷ 0 ∷ 10 ∷ 0 �
     ++ ((0 ∷ 1 ∷ 0 ∷ 0 ∷ 0 ∷ 1 ∷ 0 ∷ 8 ∷ []) ++ ((0 ∷ 1 ∷ 0 ∷ 6 ∷ 0 ∷ 2 ∷ [])
     ++ (0 ∷ 1 ∷ 0 ∷ 2 ∷ 0 ∷ 5 ∷ 0 ∷ 9 ∷ [])))
 
--- that lookup in a plan, for glyphs with bit 8 of their masks
-abbrev pub lookup_of_two : StageLookup
-lookup_of_two = record {
+-- a font's first lookup in a plan, for glyphs with bit 8 of their masks
+abbrev pub first_lookup : StageLookup
+first_lookup = record {
   index = 0;
   mask = 256;
   auto_zwnj = true;
@@ -28,4 +28,4 @@ lookup_of_two = record {
 abbrev pub IsMadeOfPieces : Buffer → Glyphs → Type 0
 IsMadeOfPieces old made = (numbered : Numbering) → BreaksWhereCleared Glyphs CutWhereClear
     (λ piece part. (one : Buffer) → IsPiece numbered old piece one →
-    AreAsIn numbered part (substituted_by [] two_singles lookup_of_two one).glyphs) old.glyphs made
+    AreAsIn numbered part (substituted_by [] two_singles first_lookup one).glyphs) old.glyphs made

@@ -1,19 +1,21 @@
-//! What the lookups of a font leave of a text's pieces: laws, and a font of two glyphs that they are
-//! read for.
+//! What the lookups of a font leave of a text's pieces: laws, and two fonts that they are read for.
 #![tactic(auto)]
 
 ghost use Rattle.opentype_break_laws.specs.FontPieces.{FontLookupsLeavePieces, FontRunsLeavePieces, FontTextsBreak, OneForOneGoesByPieces};
 
+mod one_as_two;
 mod two_singles;
 
+pub use one_as_two::substitute_sequence;
 use shapers_editing::pipeline_breaks_law;
 pub use two_singles::substitute_two;
 
 /// A lookup of a font whose subtables put one glyph for one (types 1 and 3, with no alternate picked
 /// at random), and a lookup of any type that begins at no glyph of the text, leaves the pieces'
-/// results of the text side by side. So do the lookups of a run, where each of them is such at its
-/// text; and a text that is shaped by them may be broken at every clear place, from its fractions on
-/// and up to the last stage.
+/// results of the text side by side. One of ligatures (type 4) does so in texts that take them piece
+/// by piece, and one of sequences (type 2) in texts with room for them, where none is empty. So do the
+/// lookups of a run, where each of them is such at its text; and a text that is shaped by them may be
+/// broken at every clear place, from its fractions on and up to the last stage.
 pub fn font_pieces_law()
     ensures lookups { FontLookupsLeavePieces }
     ensures runs { FontRunsLeavePieces }

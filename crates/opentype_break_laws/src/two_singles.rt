@@ -2,7 +2,7 @@
 ghost use Rattle.std.specs.Prelude.{◌≡◌, [], OnErr, OnOk, IsOkUnless};
 ghost use Rattle.shapers_buffer.specs.declared.buffer.refusal.ShaperError.TheVariants.{Memory};
 ghost use Rattle.opentype_font.specs.Lookups.{substituted_by};
-ghost use Rattle.opentype_break_laws.specs.TwoSingles.{IsMadeOfPieces, lookup_of_two, two_singles};
+ghost use Rattle.opentype_break_laws.specs.TwoSingles.{IsMadeOfPieces, first_lookup, two_singles};
 
 use crate::font_pieces_law;
 use opentype_face::class_table::ClassTable;
@@ -31,7 +31,7 @@ fn two_singles() -> [u8; 36]
 /// `Memory`; nothing has changed then.
 pub fn substitute_two(buffer: &mut hb_buffer_t) -> Result<(), ShaperError>
     requires { buffer.old.positions ≡ [] }
-    ensures ok { OnOk result (buffer.new ≡ substituted_by [] two_singles lookup_of_two buffer.old) }
+    ensures ok { OnOk result (buffer.new ≡ substituted_by [] two_singles first_lookup buffer.old) }
     ensures pieces { OnOk result (IsMadeOfPieces buffer.old buffer.new.glyphs) }
     ensures refusal { IsOkUnless result Memory }
     ensures err { OnErr result (buffer.new ≡ buffer.old) }

@@ -2,7 +2,7 @@ use Rattle.std.proofs.Common.{[], ap, ◌∙◌}
 use Rattle.opentype_gsub.specs.Substituted.{substituted}
 use Rattle.opentype_gsub.proofs.Untouched.{ok_then}
 use Rattle.opentype_font.specs.Lookups.{use_for}
-use Rattle.opentype_break_laws.specs.TwoSingles.{lookup_of_two}
+use Rattle.opentype_break_laws.specs.TwoSingles.{first_lookup}
 use Rattle.opentype_break_laws.proofs.TwoSingles.{made_of_pieces}
 use Rattle.opentype_break_laws.proofs.two_singles.substitute_two.Goals as goal
 
@@ -11,6 +11,6 @@ returns-clause-pieces c =
     let old = c.args.buffer.now in
     ok_then c.substitute.result
     (λ is. made_of_pieces c.font_pieces_law.ensures.lookups old c.substitute.new.buffer
-    (is ∙ ap (λ gdef. substituted gdef c.of-2.result (use_for lookup_of_two) old) c.of.ensures
-    ∙ ap (λ gsub. substituted [] gsub (use_for lookup_of_two) old) (c.of-2.ensures ∙ c.two_singles-bytes.ensures)))
+    (is ∙ ap (λ gdef. substituted gdef c.of-2.result (use_for first_lookup) old) c.of.ensures
+    ∙ ap (λ gsub. substituted [] gsub (use_for first_lookup) old) (c.of-2.ensures ∙ c.two_singles-bytes.ensures)))
     c.substitute.ensures.ok
