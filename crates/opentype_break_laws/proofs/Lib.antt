@@ -15,3 +15,4 @@ pub mod OneAsTwo
 mod OneForOneRows
 mod LigatureFontRows
 mod SequenceRows
+mod ContextRows
