@@ -16,7 +16,7 @@ use Rattle.shapers_break_laws.proofs.MaskReads.{mask_read}
 use Rattle.shapers_plan.specs.declared.ot_map.lookups.StageLookup.{StageLookup}
 use Rattle.shapers_editing.specs.PipelineBreaks.{AreAsIn, IsPiece, LookupLeaves, Numbering}
 use Rattle.opentype_face.specs.Bytes.{u16_in}
-use Rattle.opentype_face.specs.Lookups.{lookup_in, subtable_in, type_in}
+use Rattle.opentype_face.specs.Lookups.{lookup_in, subtable_in, subtables_in, type_in}
 use Rattle.opentype_layout.specs.Looking.{looked_by, nothing, unjoined}
 use Rattle.opentype_layout.specs.Text.{glyph_at}
 use Rattle.opentype_layout.specs.declared.sight.Sight.{Sight}
@@ -171,7 +171,7 @@ as_sequence s at gs r sequence = inl (sequence_put s at gs r sequence)
 
 -- a lookup's table of subtables of type 2
 abbrev HasSequences : List ℕ → Type 0
-HasSequences table = (i : ℕ) → i < u16_in table 4 → type_in 7 table i ≡ 2
+HasSequences table = (i : ℕ) → i < subtables_in table → type_in 7 table i ≡ 2
 
 comes_two : (s : Setting) (table : List ℕ) (gs : Glyphs) (at : ℕ) (r : LookupRecord) → HasSequences table → at < length gs
     → came_in s table gs at r ≡ option_map (as_sequence s at gs r) (sequence_for table (two_byte_number gs at))
@@ -180,7 +180,7 @@ comes_two s table gs at r types lt =
     let number = two_byte_number gs at in
     sym (came_is s table gs at r sights lt refl)
     ∙ first_mapped (as_sequence s at gs r) (λ i. set_for_glyph (subtable_in 7 table i) number)
-    (nth_came s sights table at gs r) (u16_in table 4) 0
+    (nth_came s sights table at gs r) (subtables_in table) 0
     (λ d less. (let bytes = subtable_in 7 table (0 + d) in
     ruleless s sights table at gs r (0 + d) 2 (types (0 + d) (omega (arith, less))) refl
     ∙ ap (option_map inl) (put_two s sights.input bytes gs at r)
@@ -202,7 +202,7 @@ unfolding tried lookup_looked
 still_tried s table gs at types =
     let sights = sights_of s.gdef s.lookup table (glyph_at gs at) in
     kept_if (s.concat && nat_lt at (length gs)) _ gs
-    (ap (λ x. unjoined x gs) (all_none _ (subtable_looked s sights table gs at) at (u16_in table 4) 0
+    (ap (λ x. unjoined x gs) (all_none _ (subtable_looked s sights table gs at) at (subtables_in table) 0
     (λ d less. unlooked s sights table gs at (0 + d) (types (0 + d) (omega (arith, less))))) ∙ unflagged at gs)
 
 -- a glyph whose sequence isn't empty, if the lookup sees it

@@ -5,9 +5,8 @@ use Rattle.std.specs.Option.{option_map_or}
 use Rattle.shapers_buffer.specs.Buffer.{Buffer}
 use Rattle.shapers_buffer.specs.Glyphs.{Glyph, Glyphs}
 use Rattle.shapers_buffer.specs.declared.buffer.lig_props.LigProps.{LigProps}
-use Rattle.opentype_face.specs.Bytes.{u16_in}
 use Rattle.opentype_face.specs.Firsts.{first_from}
-use Rattle.opentype_face.specs.Lookups.{lookup_in, subtable_in, type_in}
+use Rattle.opentype_face.specs.Lookups.{lookup_in, subtable_in, subtables_in, type_in}
 use Rattle.opentype_gsub.specs.Decided.{set_for_glyph}
 use Rattle.opentype_gsub.specs.Edits.{count_in}
 use Rattle.shapers_editing.specs.PipelineBreaks.{Numbering}
@@ -16,15 +15,15 @@ use Rattle.shapers_plan.specs.declared.ot_map.lookups.StageLookup.{StageLookup}
 -- A lookup of a plan puts sequences in, by a font's GSUB: its table has subtables, and all are of
 -- type 2. Its mask has no glyph flag.
 pub record PutsSequences (gsub : List ℕ) (lookup : StageLookup) : Type 0 where
-  pub some : 0 < u16_in (lookup_in gsub lookup.index) 4
-  pub types : (i : ℕ) → i < u16_in (lookup_in gsub lookup.index) 4 →
+  pub some : 0 < subtables_in (lookup_in gsub lookup.index)
+  pub types : (i : ℕ) → i < subtables_in (lookup_in gsub lookup.index) →
       type_in 7 (lookup_in gsub lookup.index) i ≡ 2
   pub flagless : lookup.mask % 8 ≡ 0
 
 -- the sequence that such a table has for a glyph, by the first of its subtables that has one
 abbrev pub sequence_for : List ℕ → ℕ → Option (List ℕ)
 sequence_for table number =
-    first_from (u16_in table 4) (λ i. set_for_glyph (subtable_in 7 table i) number) 0
+    first_from (subtables_in table) (λ i. set_for_glyph (subtable_in 7 table i) number) 0
 
 -- how many glyphs come of one: as many as its sequence has, if the glyph has a bit of the mask
 abbrev pub glyphs_of_one : ℕ → List ℕ → Glyph → ℕ
