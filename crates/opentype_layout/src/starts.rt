@@ -429,7 +429,8 @@ impl<'a> LookupTable<'a> {
     }
 
     /// A subtable of a lookup of GSUB, with its table, if it has one.
-    #[inline]
+    // (each place of a lookup asks this, for which a call is long)
+    #[inline(always)]
     pub fn subtable(&self, i: u16) -> SubtableRef<'a>
         ensures kind { result.kind ≡ (nth_subtable self.now i).kind }
         ensures bytes { result.bytes.now ≡ (nth_subtable self.now i).bytes }

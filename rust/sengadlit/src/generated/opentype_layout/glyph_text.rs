@@ -303,6 +303,10 @@ impl GlyphText {
             before,
             behind,
         } = self;
+        // (most lookups leave no gap)
+        if before == glyphs.len() {
+            return glyphs;
+        }
         let mut glyphs = glyphs;
         move_gap(&mut glyphs, before, behind, len);
         glyphs.truncate(len);

@@ -414,6 +414,7 @@ impl<'a> LookupTable<'a> {
     }
 
     /// A subtable of a lookup of GSUB, with its table, if it has one.
+    // (each place of a lookup asks this, for which a call is long)
     ///
     /// <details><summary>Contract</summary>
     ///
@@ -427,7 +428,7 @@ impl<'a> LookupTable<'a> {
     /// - `nth_subtable`: `crates/opentype_layout/specs/SubstitutionTables.antt`
     ///
     /// </details>
-    #[inline]
+    #[inline(always)]
     pub fn subtable(&self, i: u16) -> SubtableRef<'a> {
         match self.substitutions.get(usize::from(i)) {
             Some(table) => table.as_subtable(),
