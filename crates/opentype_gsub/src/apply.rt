@@ -255,7 +255,8 @@ fn apply_chosen(
 
 /// What a subtable that adds no glyph makes of a text at a place, by the place of the glyph there in
 /// the set that it begins with: the place behind what it did, if it fits. It takes no memory.
-#[inline]
+// (a call would pass on much that the caller has at hand)
+#[inline(always)]
 #[tactic(auto, unfolding(crate::specs::Applied::one_put))]
 pub fn apply_in_room(
     pass: &Pass<'_>,

@@ -72,6 +72,59 @@ fn fit_ligature(
     })
 }
 
+// The first ligature of a set that fits a place of a text, by the key of the glyph behind the place. (It
+// is compiled for each key apart, since most of a set's ligatures end at this test.)
+#[inline(always)]
+fn first_by_key(
+    gdef: &[u8],
+    sight: &Sight,
+    key: Key,
+    set: &[u8],
+    glyphs: &GlyphView<'_>,
+    at: usize,
+) -> Option<Fitting>
+    requires here { at < length glyphs.now }
+    requires key { (test : ℕ → ℕ → Bool) (k : ℕ) → bars key (test k) ≡ true →
+        next_in gdef.now sight.now test glyphs.now k (at + 1) ≡ None }
+    ensures within { IfSome result (λ it. (j : ℕ) → j < length it.places.items →
+        slice_index it.places.items j < length glyphs.now) }
+    ensures value { option_map (λ it. (it.glyph, it.places.items)) result
+        ≡ first_from (rule_count_in set.now) (nth_ligature gdef.now sight.now glyphs.now at set.now) 0 }
+{
+    for i in 0..rule_count(set) {
+        let offset = usize::from(u16_at(set, 2 + usize::from(i) * 2));
+        if is_barred(&key, set, offset) {
+            continue;
+        }
+        let found = fit_ligature(gdef, sight, table_at(set, offset), glyphs, at);
+        if found.is_some() {
+            return found;
+        }
+    }
+    None
+}
+
+// The same for what is rare: a set without a count, and a glyph that a search may pass over.
+#[inline(never)]
+fn first_apart(
+    gdef: &[u8],
+    sight: &Sight,
+    key: Key,
+    set: &[u8],
+    glyphs: &GlyphView<'_>,
+    at: usize,
+) -> Option<Fitting>
+    requires here { at < length glyphs.now }
+    requires key { (test : ℕ → ℕ → Bool) (k : ℕ) → bars key (test k) ≡ true →
+        next_in gdef.now sight.now test glyphs.now k (at + 1) ≡ None }
+    ensures within { IfSome result (λ it. (j : ℕ) → j < length it.places.items →
+        slice_index it.places.items j < length glyphs.now) }
+    ensures value { option_map (λ it. (it.glyph, it.places.items)) result
+        ≡ first_from (rule_count_in set.now) (nth_ligature gdef.now sight.now glyphs.now at set.now) 0 }
+{
+    first_by_key(gdef, sight, key, set, glyphs, at)
+}
+
 /// The first ligature of a set that fits a place of a text.
 pub fn first_fitting(
     gdef: &[u8],
@@ -87,15 +140,13 @@ pub fn first_fitting(
         ≡ first_from (rule_count_in set.now) (nth_ligature gdef.now sight.now glyphs.now at set.now) 0 }
 {
     let key = key_behind(gdef, sight, glyphs, glyphs.after(at));
-    for i in 0..rule_count(set) {
-        let offset = usize::from(u16_at(set, 2 + usize::from(i) * 2));
-        if is_barred(&key, set, offset) {
-            continue;
-        }
-        let found = fit_ligature(gdef, sight, table_at(set, offset), glyphs, at);
-        if found.is_some() {
-            return found;
-        }
+    // (behind this test the loops need none of the least length)
+    if set.len() < 2 {
+        return first_apart(gdef, sight, key, set, glyphs, at);
     }
-    None
+    match key {
+        Key::Number(second) => first_by_key(gdef, sight, Key::Number(second), set, glyphs, at),
+        Key::Nothing => first_by_key(gdef, sight, Key::Nothing, set, glyphs, at),
+        Key::Any => first_apart(gdef, sight, Key::Any, set, glyphs, at),
+    }
 }

@@ -17,6 +17,7 @@ use crate::apply::apply_in_room;
 use crate::pass::Pass;
 use crate::presence::next_place;
 use crate::trying::flag_tried;
+use opentype_face::bytes::u16_at;
 use opentype_face::lookup::subtable_count;
 use opentype_layout::glyph_text::GlyphText;
 use opentype_layout::sight::{Sight, number};
@@ -36,7 +37,12 @@ fn is_plain(kind: u16) -> bool
 pub(crate) fn are_plain(lookup: &LookupTable<'_>) -> bool
     ensures { result ≡ true → ArePlain lookup.now }
 {
-    let count = subtable_count(lookup.bytes());
+    let bytes = lookup.bytes();
+    let (count, kind) = (subtable_count(bytes), u16_at(bytes, 0));
+    // (only in type 7 subtables have types of their own)
+    if kind != 7 {
+        return count > 0 && is_plain(kind);
+    }
     for i in 0..count {
         if !is_plain(lookup.subtable(i).kind) {
             return false;

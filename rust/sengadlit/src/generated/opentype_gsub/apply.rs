@@ -214,6 +214,7 @@ fn apply_chosen(
 
 /// What a subtable that adds no glyph makes of a text at a place, by the place of the glyph there in
 /// the set that it begins with: the place behind what it did, if it fits. It takes no memory.
+// (a call would pass on much that the caller has at hand)
 ///
 /// <details><summary>Contract</summary>
 ///
@@ -236,7 +237,7 @@ fn apply_chosen(
 /// - `first_place`: `crates/opentype_layout/specs/SubstitutionTables.antt`
 ///
 /// </details>
-#[inline]
+#[inline(always)]
 pub fn apply_in_room(
     pass: &Pass<'_>,
     sight: &Sight,

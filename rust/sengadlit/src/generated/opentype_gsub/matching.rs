@@ -51,6 +51,43 @@ fn fit_ligature(
     })
 }
 
+// The first ligature of a set that fits a place of a text, by the key of the glyph behind the place. (It
+// is compiled for each key apart, since most of a set's ligatures end at this test.)
+#[inline(always)]
+fn first_by_key(
+    gdef: &[u8],
+    sight: &Sight,
+    key: Key,
+    set: &[u8],
+    glyphs: &GlyphView<'_>,
+    at: usize,
+) -> Option<Fitting> {
+    for i in 0..rule_count(set) {
+        let offset = usize::from(u16_at(set, 2 + usize::from(i) * 2));
+        if is_barred(&key, set, offset) {
+            continue;
+        }
+        let found = fit_ligature(gdef, sight, table_at(set, offset), glyphs, at);
+        if found.is_some() {
+            return found;
+        }
+    }
+    None
+}
+
+// The same for what is rare: a set without a count, and a glyph that a search may pass over.
+#[inline(never)]
+fn first_apart(
+    gdef: &[u8],
+    sight: &Sight,
+    key: Key,
+    set: &[u8],
+    glyphs: &GlyphView<'_>,
+    at: usize,
+) -> Option<Fitting> {
+    first_by_key(gdef, sight, key, set, glyphs, at)
+}
+
 /// The first ligature of a set that fits a place of a text.
 ///
 /// <details><summary>Contract</summary>
@@ -78,15 +115,13 @@ pub fn first_fitting(
     at: usize,
 ) -> Option<Fitting> {
     let key = key_behind(gdef, sight, glyphs, glyphs.after(at));
-    for i in 0..rule_count(set) {
-        let offset = usize::from(u16_at(set, 2 + usize::from(i) * 2));
-        if is_barred(&key, set, offset) {
-            continue;
-        }
-        let found = fit_ligature(gdef, sight, table_at(set, offset), glyphs, at);
-        if found.is_some() {
-            return found;
-        }
+    // (behind this test the loops need none of the least length)
+    if set.len() < 2 {
+        return first_apart(gdef, sight, key, set, glyphs, at);
     }
-    None
+    match key {
+        Key::Number(second) => first_by_key(gdef, sight, Key::Number(second), set, glyphs, at),
+        Key::Nothing => first_by_key(gdef, sight, Key::Nothing, set, glyphs, at),
+        Key::Any => first_apart(gdef, sight, Key::Any, set, glyphs, at),
+    }
 }

@@ -4,6 +4,7 @@
 
 use crate::support::prelude::*;
 
+use crate::generated::opentype_face::bytes::u16_at;
 use crate::generated::opentype_face::lookup::subtable_count;
 use crate::generated::opentype_gsub::apply::apply_in_room;
 use crate::generated::opentype_gsub::pass::Pass;
@@ -23,7 +24,12 @@ fn is_plain(kind: u16) -> bool {
 /// Whether a lookup's table has subtables, and all of them put single glyphs in.
 #[inline]
 pub(crate) fn are_plain(lookup: &LookupTable<'_>) -> bool {
-    let count = subtable_count(lookup.bytes());
+    let bytes = lookup.bytes();
+    let (count, kind) = (subtable_count(bytes), u16_at(bytes, 0));
+    // (only in type 7 subtables have types of their own)
+    if kind != 7 {
+        return count > 0 && is_plain(kind);
+    }
     for i in 0..count {
         if !is_plain(lookup.subtable(i).kind) {
             return false;
