@@ -75,7 +75,8 @@ fn first_by_key(
     None
 }
 
-// The same for what is rare: a set without a count, and a glyph that a search may pass over.
+// The first ligature of a set that fits a place, out of line: a set without a count, and a glyph behind
+// the place that a search may pass over, are rare.
 #[inline(never)]
 fn first_apart(
     gdef: &[u8],
