@@ -205,7 +205,18 @@ impl<'a, C: NormalizeContext> GlyphChange for Mapping<'a, C> {
 
     #[inline]
     fn change(&self, glyph: &mut hb_glyph_info_t) {
-        *glyph = mapped(self.context, *glyph);
+        map_in_place(self.context, glyph);
+    }
+}
+
+// Gives a character that stays its glyph. (The rest of it isn't moved.)
+#[inline]
+fn map_in_place<C: NormalizeContext>(context: &C, glyph: &mut hb_glyph_info_t)
+    ensures { glyph.new ≡ with_own_glyph (C.context context.now) glyph.old }
+{
+    match context.get_nominal_glyph(glyph.glyph_id) {
+        Some(own) => glyph.glyph_props = GlyphProps(own.0),
+        None => *glyph = without_glyph(context, *glyph),
     }
 }
 

@@ -187,7 +187,16 @@ struct Mapping<'a, C: NormalizeContext> {
 impl<'a, C: NormalizeContext> GlyphChange for Mapping<'a, C> {
     #[inline]
     fn change(&self, glyph: &mut GlyphInfo) {
-        *glyph = mapped(self.context, *glyph);
+        map_in_place(self.context, glyph);
+    }
+}
+
+// Gives a character that stays its glyph. (The rest of it isn't moved.)
+#[inline]
+fn map_in_place<C: NormalizeContext>(context: &C, glyph: &mut GlyphInfo) {
+    match context.nominal_glyph(glyph.glyph_id) {
+        Some(own) => glyph.glyph_props = GlyphProps(own.0),
+        None => *glyph = without_glyph(context, *glyph),
     }
 }
 
