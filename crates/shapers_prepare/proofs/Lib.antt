@@ -9,4 +9,5 @@ pub mod PropertySteps
 mod RotationRows
 pub mod TurningSteps
 mod Untouched
+pub mod VowelOpenings
 pub mod VowelSteps

@@ -165,7 +165,53 @@ impl GlyphRewriting for VowelCircles {
 }
 
 // How many circles a text gets.
+#[inline]
 fn count_circles(script: VowelScript, glyphs: &[GlyphInfo]) -> usize {
+    // (most texts have no character that opens a pair)
+    if !has_opening(opening_range(script), glyphs) {
+        return 0;
+    }
+    count_each(script, glyphs)
+}
+
+// Between which characters those are that open a pair of the script's, and the last one of
+// Devanagari's triple.
+#[inline]
+fn opening_range(script: VowelScript) -> (u32, u32) {
+    match script {
+        VowelScript::Devanagari => (0x0905, 0x090F),
+        VowelScript::Bengali => (0x0985, 0x098C),
+        VowelScript::Gurmukhi => (0x0A05, 0x0A73),
+        VowelScript::Gujarati => (0x0A85, 0x0AC5),
+        VowelScript::Oriya => (0x0B05, 0x0B13),
+        VowelScript::Tamil => (0x0B85, 0x0B85),
+        VowelScript::Telugu => (0x0C12, 0x0C4A),
+        VowelScript::Kannada => (0x0C89, 0x0C92),
+        VowelScript::Malayalam => (0x0D07, 0x0D12),
+        VowelScript::Sinhala => (0x0D85, 0x0D94),
+        VowelScript::Brahmi => (0x11005, 0x1100F),
+        VowelScript::Khojki => (0x11200, 0x11240),
+        VowelScript::Khudawadi => (0x112B0, 0x112B0),
+        VowelScript::Tirhuta => (0x11481, 0x114AA),
+        VowelScript::Modi => (0x11600, 0x11601),
+        VowelScript::Takri => (0x11680, 0x11686),
+    }
+}
+
+// Whether a text has a character between these.
+#[inline]
+fn has_opening(range: (u32, u32), glyphs: &[GlyphInfo]) -> bool {
+    glyphs.iter().any(|glyph| opens_between(range, glyph))
+}
+
+// Whether a glyph's character is between these.
+#[inline]
+fn opens_between(range: (u32, u32), glyph: &GlyphInfo) -> bool {
+    range.0 <= glyph.glyph_id && glyph.glyph_id <= range.1
+}
+
+// How many circles a text gets, looked for at each character.
+fn count_each(script: VowelScript, glyphs: &[GlyphInfo]) -> usize {
     let mut count = 0;
     let mut left = 0;
     for i in 0..glyphs.len() {
