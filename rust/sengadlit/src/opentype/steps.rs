@@ -56,7 +56,12 @@ impl Steps<'_> {
     }
 
     /// Puts the glyph for missing characters in place of glyph 0, where lookups are the plan's first.
+    // (most texts have no such glyph: the question is put first, since a plan may have many stages)
+    #[inline]
     fn put_not_found_before(&self, list: &[StageLookup], buffer: &mut Buffer) {
+        if self.not_found.is_none() {
+            return;
+        }
         let (lookups, positioning) = (self.plan.lookups(), self.plan.positioning());
         let Some(first) = lookups.first().or(positioning.first()) else {
             return;
