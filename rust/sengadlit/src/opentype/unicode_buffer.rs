@@ -9,10 +9,12 @@ use crate::buffer::{
 };
 use crate::font::GlyphId;
 use crate::language::Language;
-use crate::text::write_characters;
 use core::fmt::{self, Write};
 use core::slice;
 use rust_alloc::string::String;
+
+/// How many bytes a text may have that isn't counted before room is made for it.
+const MOST_UNCOUNTED: usize = 64;
 
 /// A text that is to be shaped: its characters with their clusters, and what is known of it.
 ///
@@ -189,12 +191,31 @@ impl UnicodeBuffer {
         if u32::try_from(text.len()).is_err() {
             return Err(ShaperError::TooLong);
         }
-        let count = text.chars().count();
-        let glyphs = self.list_for(count)?;
-        let start = glyphs.len();
-        glyphs.resize(start + count, GlyphInfo::DEFAULT)?;
-        write_characters(&mut glyphs[start..], text);
+        let most = self.most_characters(text);
+        let glyphs = self.list_for(most)?;
+        glyphs.reserve(most)?;
+        for (place, character) in text.char_indices() {
+            #[expect(
+                clippy::cast_possible_truncation,
+                reason = "it fits, as the length of the text does"
+            )]
+            let cluster = place as u32;
+            // (there is room for it)
+            let pushed = glyphs.push(GlyphInfo::of_character(character, cluster));
+            pushed.map_err(|_| ShaperError::Memory)?;
+        }
         Ok(())
+    }
+
+    /// For how many characters of a text room is made. A short text isn't counted where there is room for
+    /// as many as it has bytes, since it has no more characters.
+    #[inline]
+    fn most_characters(&mut self, text: &str) -> usize {
+        if text.len() <= MOST_UNCOUNTED && self.list_for(text.len()).is_ok() {
+            text.len()
+        } else {
+            text.chars().count()
+        }
     }
 
     /// The list of characters, if it may have so many more.
