@@ -103,6 +103,7 @@ impl ShapePlan {
 
     /// The same with the face's own font, [`Face::font`], whose lookups are applied, and told if there is
     /// somebody to tell.
+    #[inline]
     pub(super) fn shape_and_tell<F: NormalizeFont + MetricsFont>(
         &self,
         face: &Face<'_>,

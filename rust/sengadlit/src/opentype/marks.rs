@@ -19,9 +19,17 @@ pub(super) struct MarkPlacing<'a> {
 impl<'a> MarkPlacing<'a> {
     /// How marks are placed by a plan, if GPOS doesn't do it, the shaper wants it, and no pair is moved across
     /// the line. (HarfBuzz's `fallback_mark_positioning`.)
+    #[inline]
     pub fn new(face: &'a Face<'a>, plan: &EnginePlan, kerning: &Kerning<'_>) -> Option<Self> {
-        let wants = positions_by_itself(plan.shaper());
-        if plan.applies_gpos() || !wants || kerning.moves_across() {
+        if plan.applies_gpos() {
+            return None;
+        }
+        MarkPlacing::without_gpos(face, plan, kerning)
+    }
+
+    /// The same of a plan that doesn't apply GPOS.
+    fn without_gpos(face: &'a Face<'a>, plan: &EnginePlan, kerning: &Kerning<'_>) -> Option<Self> {
+        if !positions_by_itself(plan.shaper()) || kerning.moves_across() {
             return None;
         }
         let line = match plan.direction() {

@@ -201,14 +201,19 @@ fn given_back(
 }
 
 /// What was shaped, or nothing.
+#[inline]
 fn complete_or_empty(shaped: Result<GlyphBuffer, ShapeError>) -> GlyphBuffer {
-    shaped.unwrap_or_else(|refused| {
-        let mut text = refused.text;
-        let (direction, _) = segment_of(&text);
-        text.clear();
-        text.set_direction(direction);
-        GlyphBuffer::new(text, false)
-    })
+    shaped.unwrap_or_else(emptied)
+}
+
+/// Nothing of a text that couldn't be shaped, in its direction.
+#[cold]
+fn emptied(refused: ShapeError) -> GlyphBuffer {
+    let mut text = refused.text;
+    let (direction, _) = segment_of(&text);
+    text.clear();
+    text.set_direction(direction);
+    GlyphBuffer::new(text, false)
 }
 
 #[cfg(test)]
