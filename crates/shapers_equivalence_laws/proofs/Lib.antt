@@ -14,4 +14,10 @@ pub mod UnicodePairs
 pub mod HebrewForms
 pub mod KhmerTexts
 pub mod ShapersProved
+pub mod Classless
+pub mod PlainGlyphs
+pub mod PlainRewriting
+pub mod PlainHangul
+pub mod PlainProved
+pub mod UnturnedTexts
 mod EquivalenceRows

@@ -1,4 +1,5 @@
 pub mod Equivalence
 pub mod Laws
 pub mod Shapers
+pub mod PreparedTexts
 pub mod Staying

@@ -1,6 +1,7 @@
 //! The law of canonical equivalence.
 ghost use Rattle.shapers_equivalence_laws.specs.Equivalence.{OrdersAlike};
 ghost use Rattle.shapers_equivalence_laws.specs.Laws.{ComesApartExactly, NormalizesEquivalently, OrdersMarksEquivalently, SequencesNormalizeEquivalently};
+ghost use Rattle.shapers_equivalence_laws.specs.PreparedTexts.{PreparedTextsArePlain, PreparedTextsStayEquivalent, ShortTextsStayEquivalent, TextsAreHandedOver};
 ghost use Rattle.shapers_equivalence_laws.specs.Staying.{TextsInFormStay};
 ghost use Rattle.shapers_equivalence_laws.specs.Shapers.{ShapersKeepTexts, ShapersNormalizeEquivalently};
 
@@ -38,4 +39,15 @@ pub fn shapers_law()
 /// its number, and nothing else.
 pub fn staying_law()
     ensures { TextsInFormStay }
+{}
+
+/// What `shape` and `prepare_text` normalize is plain, if the text has no variation selector and its
+/// shaper's preprocessing makes no character out of a mark with a class: a circle in Hangul and in
+/// Sinhala, a private use form in Thai. So these laws hold of it; and from left to right it is the
+/// text itself, where no shaper rewrites it.
+pub fn prepared_law()
+    ensures handed_over { TextsAreHandedOver }
+    ensures plain { PreparedTextsArePlain }
+    ensures equivalent { PreparedTextsStayEquivalent }
+    ensures short { ShortTextsStayEquivalent }
 {}

@@ -3,4 +3,4 @@
 
 mod laws;
 
-pub use laws::{equivalence_law, order_law, sequences_law, shapers_law, staying_law};
+pub use laws::{equivalence_law, order_law, prepared_law, sequences_law, shapers_law, staying_law};
