@@ -6,8 +6,9 @@ A fault's part '== font' describes its font, one line each:
     zero C..                 these have no advance
     script TAG               GSUB has this script
     single FEATURE A NEW     a lookup of the feature replaces glyph A
-    ligature FEATURE A B NEW    ... the glyphs A and B
+    ligature FEATURE A B NEW..  ... the glyphs A and B; more of A follow as B NEW
     behind FEATURE Z A B NEW    ... A and B behind the glyph Z
+    reverse FEATURE Z A NEW     ... A behind the glyph Z, from the end of the text on
 
 Characters are hexadecimal, glyphs are numbers; a glyph without a character may be named.
 """
@@ -40,9 +41,9 @@ def single(glyph, new):
     return 1, [table_of_parts(words(2), [])[:2] + words(8, 1, new) + coverage(glyph)]
 
 
-def ligature(first, second, new):
-    ligatures = table_of_parts(words(1), [words(new, 2, second)])
-    return 4, [words(1, 8, 1, 14) + coverage(first) + ligatures]
+def ligature(first, *rest):
+    ligatures = [words(new, 2, second) for second, new in zip(rest[::2], rest[1::2])]
+    return 4, [words(1, 8, 1, 14) + coverage(first) + table_of_parts(words(len(ligatures)), ligatures)]
 
 
 def behind(before, first, second, lookup):
@@ -51,6 +52,10 @@ def behind(before, first, second, lookup):
     offsets = [start + 6 * i for i in range(3)]
     body = words(3, 1, offsets[0], 2, offsets[1], offsets[2], 0, 1, 0, lookup)
     return 6, [body + b"".join(coverage(glyph) for glyph in (before, first, second))]
+
+
+def reverse(before, glyph, new):
+    return 8, [words(1, 14, 1, 20, 0, 1, new) + coverage(glyph) + coverage(before)]
 
 
 def gsub(script, lines):
@@ -63,7 +68,7 @@ def gsub(script, lines):
             lookups.append(ligature(first, second, new))
             lookups.append(behind(before, first, second, len(lookups) - 1))
         else:
-            lookups.append({"single": single, "ligature": ligature}[kind](*glyphs))
+            lookups.append({"single": single, "ligature": ligature, "reverse": reverse}[kind](*glyphs))
         features.append((feature.encode(), len(lookups) - 1))
     features.sort()
     language = words(0, 0xFFFF, len(features), *range(len(features)))
