@@ -46,11 +46,7 @@ REASONS = {
     "symbol-clusters": "the universal shaper leaves symbols with signs in place, and HarfBuzz reorders them",
     "dotted-circles": "each broken syllable opens a circle here, and HarfBuzz skips the fifteenth",
     "long-stretch": "HarfBuzz flags no stretch of more than 255 glyphs",
-    "concat-short-cuts": "HarfBuzz leaves out flags of unsafe to concat where it sees that no rule can fit",
 }
-
-# The bit of a glyph's flags that is set where a text is unsafe to concat.
-UNSAFE_TO_CONCAT = 2
 
 # hb-shape's advances are X,Y where one of them is of the other direction.
 ITEM = re.compile(r"(\d+)=(\d+)(?:@(-?\d+),(-?\d+))?\+(-?\d+)(?:,0)?(?:#(\w+))?")
@@ -81,7 +77,7 @@ class Font:
     def reason(self, text, mine, theirs):
         """Why the glyphs of a text differ, or None."""
         if [glyph[:5] for glyph in mine] == [glyph[:5] for glyph in theirs]:
-            return "concat-short-cuts" if has_more_flags(mine, theirs) else "long-stretch" if len(text) > 255 else None
+            return "long-stretch" if len(text) > 255 else None
         if "\u180f" in text:
             return "fvs4"
         if has_unsorted_length_mark(text):
@@ -100,12 +96,6 @@ def has_unsorted_length_mark(text):
     classes = {"\u0c55": 4, "\u0c56": 5, "\u0c3c": 7, "\u0c4d": 9}
     order = [classes.get(letter, 0) for letter in text.replace("\u0c48", "\u0c46\u0c56")]
     return any(before > behind in (4, 5) for before, behind in zip(order, order[1:]))
-
-
-def has_more_flags(mine, theirs):
-    """Whether glyphs differ in flags of unsafe to concat alone, of which each of HarfBuzz's is here."""
-    flags = [(int(own[5] or "0", 16), int(other[5] or "0", 16)) for own, other in zip(mine, theirs)]
-    return all(own == other | own & UNSAFE_TO_CONCAT for own, other in flags)
 
 
 def has_symbol_with_sign(text):
