@@ -8,6 +8,7 @@ use Rattle.shapers_buffer.specs.Syllables.{syllables}
 use Rattle.shapers_syllabic.specs.Syllabic.{unsafe_syllables}
 use Rattle.shapers_syllabic.proofs.CircleLaws.{joined-syllables}
 use Rattle.shapers_found_laws.specs.FoundSyllables.{GainsNone, SetUpAtMostOne, in_spans}
+use Rattle.shapers_found_laws.proofs.ZippedGlyphs.{each-zip, map-zip}
 use Rattle.shapers_found_laws.proofs.KeptCategories.{Gains, kept-at-most-one}
 
 -- bits of a mask are no category
@@ -18,28 +19,10 @@ bits-gain k bits m g = by (g.cluster == m)
     by true = record { byte = refl; gained = λ e. e }
     by false = record { byte = refl; gained = λ e. e }
 
-map-gains : (k : ℕ) (f : Glyph → Glyph) → ((g : Glyph) → GainsNone k g (f g)) → (gs : Glyphs)
-    → Gains k gs (map f gs)
-map-gains k f each [] = tt
-map-gains k f each (g ∷ gs) = (each g, map-gains k f each gs)
-
-gains-joined : (k : ℕ) (gs hs xs ys : Glyphs) → Gains k gs hs → Gains k xs ys → Gains k (gs ++ xs) (hs ++ ys)
-gains-joined k [] [] xs ys a b = b
-gains-joined k [] (h ∷ hs) xs ys a b = absurd a
-gains-joined k (g ∷ gs) [] xs ys a b = absurd a
-gains-joined k (g ∷ gs) (h ∷ hs) xs ys a b = (a.0, gains-joined k gs hs xs ys a.1 b)
-
--- what is done to each syllable for itself
-each-gains : (k : ℕ) (f : Glyphs → Glyphs) → ((gs : Glyphs) → Gains k gs (f gs)) → (ps : List Glyphs)
-    → Gains k (flat_map (λ p. p) ps) (flat_map f ps)
-each-gains k f each [] = tt
-each-gains k f each (p ∷ ps) =
-    gains-joined k p (f p) (flat_map (λ q. q) ps) (flat_map f ps) (each p) (each-gains k f each ps)
-
 pub flags-gain : (k : ℕ) (gs : Glyphs) → Gains k gs (unsafe_syllables gs)
 flags-gain k gs =
     subst (λ hs. Gains k hs (unsafe_syllables gs)) (joined-syllables gs)
-    (each-gains k (flagged 3) (λ p. map-gains k _ (λ g. bits-gain k 3 _ g) p) (syllables gs))
+    (each-zip (GainsNone k) (flagged 3) (λ p. map-zip (GainsNone k) _ (λ g. bits-gain k 3 _ g) p) (syllables gs))
 
 pub set-up-at-most-one : SetUpAtMostOne
 set-up-at-most-one g k found gs spans are =

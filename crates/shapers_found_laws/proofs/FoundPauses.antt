@@ -58,7 +58,7 @@ one-repha : (circle : DottedCircles) (gs : Glyphs) → AllByRecursion (λ s. rep
 one-repha circle gs few true = few
 one-repha circle gs few false = tt
 
-circles-behind : (glyph : Option GlyphId) (kind category : ℕ) (repha place : Option ℕ) (b : Buffer)
+pub circles-behind : (glyph : Option GlyphId) (kind category : ℕ) (repha place : Option ℕ) (b : Buffer)
     → AllByRecursion (λ s. rephas_len repha s ≤ 1) (syllables b.glyphs)
     → AtMostOneRepha (circles_for glyph kind category repha place b) b.glyphs
 circles-behind None kind category repha place b few = tt
@@ -79,7 +79,7 @@ myanmar-few-behind font b =
 
 -- ---- pauses that reorder nothing
 
-others-sort : (plan : hb_ot_shape_plan_t) (font : Font) (pause : Pause) (old new : Buffer) → reorders pause ≡ false
+pub others-sort : (plan : hb_ot_shape_plan_t) (font : Font) (pause : Pause) (old new : Buffer) → reorders pause ≡ false
     → PauseSorts plan font pause old new
 others-sort plan font SetupSyllablesIndic old new plain = inl (refl, tt)
 others-sort plan font SetupSyllablesKhmer old new plain = inl (refl, tt)
@@ -102,7 +102,7 @@ if-sort : (plan : hb_ot_shape_plan_t) (font : Font) (pause : Option Pause) (old 
 if-sort plan font None old new plain = tt
 if-sort plan font (Some pause) old new plain = others-sort plan font pause old new plain
 
-behind-sort : (r : Substitution) (ss : List Stage) (old new : Buffer) → list_any ends_reordering ss ≡ false
+pub behind-sort : (r : Substitution) (ss : List Stage) (old new : Buffer) → list_any ends_reordering ss ≡ false
     → (run : StagesRun r ss old new) → AtPauses (PauseSorts r.plan r.font) r ss old new run
 behind-sort r [] old new plain run = tt
 behind-sort r (s ∷ ss) old new plain run =
@@ -111,11 +111,11 @@ behind-sort r (s ∷ ss) old new plain run =
 
 -- ---- the stages of a shaper
 
-paused-by : (plan : hb_ot_shape_plan_t) (font : Font) (pause : Option Pause) (setup : Pause) (old new : Buffer)
+pub paused-by : (plan : hb_ot_shape_plan_t) (font : Font) (pause : Option Pause) (setup : Pause) (old new : Buffer)
     → pause ≡ Some setup → PauseRunIf pause plan font old new → PauseRun setup plan font old new
 paused-by plan font pause setup old new is run = subst (λ p. PauseRunIf p plan font old new) is run
 
-sorts-by : (plan : hb_ot_shape_plan_t) (font : Font) (pause : Option Pause) (own : Pause) (old new : Buffer)
+pub sorts-by : (plan : hb_ot_shape_plan_t) (font : Font) (pause : Option Pause) (own : Pause) (old new : Buffer)
     → pause ≡ Some own → PauseSorts plan font own old new → IfPaused (PauseSorts plan font) pause old new
 sorts-by plan font pause own old new is sorts = subst (λ p. IfPaused (PauseSorts plan font) p old new) (sym is) sorts
 
@@ -163,7 +163,7 @@ myanmar-pauses r first second behind old new are run =
 
 -- ---- circles
 
-circles-sort : CirclesStayMonotone → (glyph : Option GlyphId) (kind category : ℕ) (repha place : Option ℕ) (b : Buffer)
+pub circles-sort : CirclesStayMonotone → (glyph : Option GlyphId) (kind category : ℕ) (repha place : Option ℕ) (b : Buffer)
     → AllByRecursion (λ s. rephas_len repha s ≤ 1) (syllables b.glyphs) → IsMonotone (clusters b.glyphs)
     → IsMonotone (clusters (circled (circles_for glyph kind category repha place b) b.glyphs))
 circles-sort law None kind category repha place b few sorted = sorted
@@ -202,7 +202,7 @@ myanmar-circles-sort law r first second behind old mid are run sorted =
 
 -- ---- kinds of syllables, which no such lookup changes
 
-abbrev AreKnown : ℕ → Glyphs → Type 0
+abbrev pub AreKnown : ℕ → Glyphs → Type 0
 AreKnown last gs = list_any (IsUnknown last) gs ≡ false
 
 same-unknown : (k last : ℕ) (gs hs : Glyphs) → Gains k gs hs
@@ -220,7 +220,7 @@ known-looked k last f gains [] b known = known
 known-looked k last f gains (x ∷ xs) b known =
     known-looked k last f gains xs (f x b) (same-unknown k last b.glyphs (f x b).glyphs (gains x b) ∙ known)
 
-known-spans : (last : ℕ) (gs : Glyphs) (spans : List Span) → last ≤ 15 → spans_cover (length gs) spans ≡ true
+pub known-spans : (last : ℕ) (gs : Glyphs) (spans : List Span) → last ≤ 15 → spans_cover (length gs) spans ≡ true
     → All (λ (s : Span). s.kind ≤ last) spans → AreKnown last (unsafe_spans spans gs)
 known-spans last gs spans low cover kinds =
     same-unknown 0 last (in_spans gs spans) (unsafe_spans spans gs) (flags-gain 0 (in_spans gs spans))
@@ -247,36 +247,36 @@ lookups-know f refusals [] old left place stopped = stopped
 lookups-know f refusals (x ∷ xs) old left place (inl stopped) = stopped.0
 lookups-know f refusals (x ∷ xs) old left place (inr later) = lookups-know f refusals xs (f x old) left place later
 
-reordering-knows : (last : ℕ) (circles : Option DottedCircles) (b : Buffer) (place : ℕ) → AreKnown last b.glyphs
+pub reordering-knows : (last : ℕ) (circles : Option DottedCircles) (b : Buffer) (place : ℕ) → AreKnown last b.glyphs
     → RefusesReordering {T = Bool} (unknown_refusal last b.glyphs) circles b (Err (UnknownSyllable place)) → ⊥
 reordering-knows last circles b place known refused =
     let none : unknown_refusal last b.glyphs ≡ None =
     ap (option_map (λ p. UnknownSyllable p)) (none-at (IsUnknown last) b.glyphs known) in
     (subst (λ u. RefusesReordering {T = Bool} u circles b (Err (UnknownSyllable place))) none refused).0
 
-never : (place : ℕ) → IsOk {T = Bool} (Err (UnknownSyllable place)) → ⊥
-never place ok = false≢true ok
+pub never-so : (place : ℕ) → IsOk {T = Bool} (Err (UnknownSyllable place)) → ⊥
+never-so place ok = false≢true ok
 
 others-know : (font : Font) (pause : Pause) (b : Buffer) (place : ℕ) → reorders pause ≡ false
     → RefusesFound {T = Bool} pause font b (Err (UnknownSyllable place)) → ⊥
-others-know font SetupSyllablesIndic b place plain refused = never place refused
-others-know font SetupSyllablesKhmer b place plain refused = never place refused
-others-know font SetupSyllablesMyanmar b place plain refused = never place refused
-others-know font SetupSyllablesUse b place plain refused = never place refused
+others-know font SetupSyllablesIndic b place plain refused = never-so place refused
+others-know font SetupSyllablesKhmer b place plain refused = never-so place refused
+others-know font SetupSyllablesMyanmar b place plain refused = never-so place refused
+others-know font SetupSyllablesUse b place plain refused = never-so place refused
 others-know font InitialReordering b place plain refused = false≢true (sym plain)
 others-know font ReorderKhmer b place plain refused = false≢true (sym plain)
 others-know font ReorderMyanmar b place plain refused = false≢true (sym plain)
 others-know font ReorderUse b place plain refused = false≢true (sym plain)
 others-know font FinalReordering b place plain refused = false≢true (sym plain)
-others-know font RecordStch b place plain refused = never place refused
-others-know font RecordRphf b place plain refused = never place refused
-others-know font RecordPref b place plain refused = never place refused
-others-know font SyllabicClearVar b place plain refused = never place refused
-others-know font ClearSubstitutionFlags b place plain refused = never place refused
-others-know font ArabicFallbackShape b place plain refused = never place refused
+others-know font RecordStch b place plain refused = never-so place refused
+others-know font RecordRphf b place plain refused = never-so place refused
+others-know font RecordPref b place plain refused = never-so place refused
+others-know font SyllabicClearVar b place plain refused = never-so place refused
+others-know font ClearSubstitutionFlags b place plain refused = never-so place refused
+others-know font ArabicFallbackShape b place plain refused = never-so place refused
 
 -- a pause that a stage has doesn't stop it so
-abbrev PauseKnows : Option Pause → hb_ot_shape_plan_t → Font → Buffer → Type 0
+abbrev pub PauseKnows : Option Pause → hb_ot_shape_plan_t → Font → Buffer → Type 0
 PauseKnows pause plan font b = (place : ℕ) → PauseStoppedIf pause plan font b (call.Refused (UnknownSyllable place)) → ⊥
 
 if-knows : (plan : hb_ot_shape_plan_t) (font : Font) (pause : Option Pause) (b : Buffer)
@@ -284,11 +284,11 @@ if-knows : (plan : hb_ot_shape_plan_t) (font : Font) (pause : Option Pause) (b :
 if-knows plan font None b plain = λ place stopped. stopped
 if-knows plan font (Some pause) b plain = λ place stopped. others-know font pause b place plain stopped.1
 
-knows-by : (plan : hb_ot_shape_plan_t) (font : Font) (pause : Option Pause) (own : Pause) (b : Buffer) → pause ≡ Some own
+pub knows-by : (plan : hb_ot_shape_plan_t) (font : Font) (pause : Option Pause) (own : Pause) (b : Buffer) → pause ≡ Some own
     → PauseKnows (Some own) plan font b → PauseKnows pause plan font b
 knows-by plan font pause own b is knows = subst (λ p. PauseKnows p plan font b) (sym is) knows
 
-stage-knows : (r : Substitution) (refusals : StageLookup → Buffer → LookupRefusals) (s : Stage) (old left : Buffer)
+pub stage-knows : (r : Substitution) (refusals : StageLookup → Buffer → LookupRefusals) (s : Stage) (old left : Buffer)
     (place : ℕ) → PauseKnows s.pause r.plan r.font (stage_looked_up r s old)
     → StageStopped r refusals s old left (call.Refused (UnknownSyllable place)) → ⊥
 stage-knows r refusals s old left place knows (inl stopped) =

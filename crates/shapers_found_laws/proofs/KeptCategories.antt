@@ -17,6 +17,7 @@ use Rattle.shapers_spans.specs.Myanmar.{myanmar_grammar}
 use Rattle.shapers_spans.specs.Indic.{indic_grammar}
 use Rattle.shapers_spans.specs.Universal.{universal_grammar}
 use Rattle.shapers_found_laws.specs.FoundSyllables.{FoundKindsKnown, GainsNone, KeptAtMostOne, OpensAsItHas, in_spans}
+use Rattle.shapers_found_laws.proofs.ZippedGlyphs.{KeepsByte, count-zip, each-kept, syllables-zip}
 use Rattle.shapers_found_laws.proofs.OnceInRules.{Few, KindsUpTo, count_in, spans-known}
 
 -- ---- syllables glyph by glyph
@@ -24,61 +25,18 @@ use Rattle.shapers_found_laws.proofs.OnceInRules.{Few, KindsUpTo, count_in, span
 abbrev pub Gains : ℕ → Glyphs → Glyphs → Type 0
 Gains k gs hs = AllZip (GainsNone k) gs hs
 
-in-front : (k : ℕ) (g h : Glyph) (ps qs : List Glyphs) → GainsNone k g h → AllZip (Gains k) ps qs
-    → AllZip (Gains k) (with_in_front g ps) (with_in_front h qs)
-in-front k g h [] [] s all = ((s, tt), tt)
-in-front k g h [] (q ∷ qs) s all = absurd all
-in-front k g h (p ∷ ps) [] s all = absurd all
-in-front k g h ([] ∷ ps) ([] ∷ qs) s all = ((s, tt), all.1)
-in-front k g h ([] ∷ ps) ((y ∷ q) ∷ qs) s all = absurd all.0
-in-front k g h ((x ∷ p) ∷ ps) ([] ∷ qs) s all = absurd all.0
-in-front k g h ((x ∷ p) ∷ ps) ((y ∷ q) ∷ qs) s all =
-    let same : (y.syllable == h.syllable) ≡ (x.syllable == g.syllable) =
-    ap (λ a. a == h.syllable) all.0.0.byte ∙ ap (λ b. x.syllable == b) s.byte in
-    subst (λ b. AllZip (Gains k) (with_in_front g ((x ∷ p) ∷ ps))
-    (cond b ((h ∷ (y ∷ q)) ∷ qs) ((h ∷ []) ∷ ((y ∷ q) ∷ qs)))) (sym same) (by (x.syllable == g.syllable))
-  where
-    by : (b : Bool) → AllZip (Gains k) (cond b ((g ∷ (x ∷ p)) ∷ ps) ((g ∷ []) ∷ ((x ∷ p) ∷ ps)))
-        (cond b ((h ∷ (y ∷ q)) ∷ qs) ((h ∷ []) ∷ ((y ∷ q) ∷ qs)))
-    by true = ((s, all.0), all.1)
-    by false = ((s, tt), all)
+gains-byte : (k : ℕ) → KeepsByte (GainsNone k)
+gains-byte k g h gains = gains.byte
 
-syllables-kept : (k : ℕ) (gs hs : Glyphs) → Gains k gs hs → AllZip (Gains k) (syllables gs) (syllables hs)
-syllables-kept k [] [] all = tt
-syllables-kept k [] (h ∷ hs) all = absurd all
-syllables-kept k (g ∷ gs) [] all = absurd all
-syllables-kept k (g ∷ gs) (h ∷ hs) all =
-    in-front k g h (syllables gs) (syllables hs) all.0 (syllables-kept k gs hs all.1)
-
-one-no-more : (a b : Bool) → (a ≡ true → b ≡ true) → cond a 1 0 ≤ cond b 1 0
-one-no-more false b h = omega arith
-one-no-more true true h = omega arith
-one-no-more true false h = absurd (false≢true (h refl))
-
-count-kept : (k : ℕ) (gs hs : Glyphs) → Gains k gs hs → count_in k hs ≤ count_in k gs
-count-kept k [] [] all = omega arith
-count-kept k [] (h ∷ hs) all = absurd all
-count-kept k (g ∷ gs) [] all = absurd all
-count-kept k (g ∷ gs) (h ∷ hs) all =
-    let has : Glyph → ℕ = λ x. cond (x.category == k) 1 0 in
-    let a = sum_by-cons has g gs in
-    let b = sum_by-cons has h hs in
-    let c = one-no-more (h.category == k) (g.category == k) all.0.gained in
-    let d = count-kept k gs hs all.1 in
-    omega (arith, a, b, c, d)
-
-few-kept : (k : ℕ) (ps qs : List Glyphs) → AllZip (Gains k) ps qs → AllByRecursion (Few k) ps
-    → AllByRecursion (Few k) qs
-few-kept k [] [] all few = tt
-few-kept k [] (q ∷ qs) all few = absurd all
-few-kept k (p ∷ ps) [] all few = tt
-few-kept k (p ∷ ps) (q ∷ qs) all few =
-    let a = count-kept k p q all.0 in
-    let b = few.0 in
-    (omega (arith, a, b), few-kept k ps qs all.1 few.1)
+few-kept : (k : ℕ) (p q : Glyphs) → Gains k p q → Few k p → Few k q
+few-kept k p q all few =
+    let a = count-zip (λ g. g.category == k) (GainsNone k) (λ g h gains. gains.gained) p q all in
+    omega (arith, a, few)
 
 pub kept-at-most-one : KeptAtMostOne
-kept-at-most-one k gs hs all few = few-kept k (syllables gs) (syllables hs) (syllables-kept k gs hs all) few
+kept-at-most-one k gs hs all few =
+    each-kept (GainsNone k) (Few k) (few-kept k) (syllables gs) (syllables hs)
+    (syllables-zip (GainsNone k) (gains-byte k) gs hs all) few
 
 -- ---- how a syllable opens
 
@@ -139,7 +97,7 @@ length-bytes i (s ∷ ss) =
 abbrev pub IsUnknown : ℕ → Glyph → Bool
 IsUnknown last g = nat_lt last (kind_of g.syllable)
 
-not-above : (last n : ℕ) → n ≤ last → nat_lt last n ≡ false
+pub not-above : (last n : ℕ) → n ≤ last → nat_lt last n ≡ false
 not-above last n h = search (arith, h)
 
 written-known : (last : ℕ) (gs : Glyphs) (bytes : List ℕ) → length gs ≤ length bytes

@@ -1,2 +1,4 @@
+pub mod AddsNone
+pub mod FoundIndic
 pub mod FoundPauses
 pub mod FoundSyllables

@@ -3,6 +3,7 @@
 #![tactic(auto)]
 
 ghost use Rattle.shapers_base.specs.declared.plan.pause.Pause.TheVariants.{ReorderKhmer, ReorderMyanmar, SetupSyllablesKhmer, SetupSyllablesMyanmar};
+ghost use Rattle.shapers_found_laws.specs.FoundIndic.{FoundIndicKnows, FoundIndicOpens, FoundIndicSorts, OthersKnow};
 ghost use Rattle.shapers_found_laws.specs.FoundPauses.{FoundCirclesSort, FoundPausesSort, FoundStagesKnow};
 ghost use Rattle.shapers_found_laws.specs.FoundSyllables.{FoundAtMostOne, FoundKindsKnown, KeptAtMostOne, OpensAsItHas, SetUpAtMostOne};
 ghost use Rattle.shapers_spans.specs.Indic.{indic_grammar};
@@ -44,6 +45,19 @@ pub fn found_pauses_law()
     ensures circles_in_myanmar { FoundCirclesSort SetupSyllablesMyanmar ReorderMyanmar 14 }
     ensures known_in_khmer { FoundStagesKnow SetupSyllablesKhmer ReorderKhmer 14 }
     ensures known_in_myanmar { FoundStagesKnow SetupSyllablesMyanmar ReorderMyanmar 14 }
+{
+    monotone_law();
+}
+
+/// In the stages of Indic, whose set-up finds syllables: with lookups behind it that give no syllable a
+/// repha or an unknown kind, no syllable opens with two rephas where the initial reordering opens
+/// circles, so that these keep clusters rising or falling, and no pause finds a syllable of unknown
+/// kind. Nor does one of any stages that ask for no kinds, as the universal shaper's.
+pub fn found_indic_law()
+    ensures opens { FoundIndicOpens }
+    ensures sorts { FoundIndicSorts }
+    ensures known { FoundIndicKnows }
+    ensures others { OthersKnow }
 {
     monotone_law();
 }
