@@ -15,6 +15,8 @@ use Rattle.shapers_spans.specs.Indic.{indic_grammar, indic_rules}
 use Rattle.shapers_spans.specs.Khmer.{khmer_grammar, khmer_rules}
 use Rattle.shapers_spans.specs.Universal.{universal_grammar, universal_rules}
 use Rattle.shapers_spans.specs.Passing.{begins_passed, none_passed}
+use Rattle.shapers_spans.proofs.Cutting.{behind-reach}
+use Rattle.shapers_spans.proofs.Reached.{behind-is-read}
 use Rattle.shapers_syllabic.proofs.SyllabicLemmas.{covers_first, cut_next}
 use Rattle.shapers_found_laws.specs.FoundSyllables.{AtMostOneEach, FoundAtMostOne, in_spans}
 use Rattle.shapers_buffer.specs.Syllables.{in_syllable, span_byte, span_bytes, spans_cover, syllables, with_bytes}
@@ -46,7 +48,7 @@ once k (seq a b) = cond (never k a) (once k b) (cond (once k a) (never k b) fals
 once k (alt a b) = cond (once k a) (once k b) false
 once k (star a) = never k a
 
-both : (x y : Bool) → cond x y false ≡ true → (x ≡ true) × (y ≡ true)
+pub both : (x y : Bool) → cond x y false ≡ true → (x ≡ true) × (y ≡ true)
 both true y h = (refl, h)
 both false y h = cc
 
@@ -57,7 +59,7 @@ not-count k c h = by (c == k) refl h
     by true e h = cc
     by false e h = rw e refl
 
-many-none : (k : ℕ) (L : List ℕ → Type 0) → ((w : List ℕ) → L w → count k w ≡ 0) → (w : List ℕ) → Many L w
+pub many-none : (k : ℕ) (L : List ℕ → Type 0) → ((w : List ℕ) → L w → count k w ≡ 0) → (w : List ℕ) → Many L w
     → count k w ≡ 0
 many-none k L each w (done x e) = ap (count k) e
 many-none k L each w (more x u v e a b) =
@@ -121,7 +123,7 @@ unfoldable pub all_once : ℕ → List Re → Bool
 all_once k [] = true
 all_once k (r ∷ rs) = let rest = all_once k rs in cond (once k r) rest false
 
-rule-once : (k : ℕ) (rules : List Re) → all_once k rules ≡ true → (j : ℕ) → once k (get_or rules j none) ≡ true
+pub rule-once : (k : ℕ) (rules : List Re) → all_once k rules ≡ true → (j : ℕ) → once k (get_or rules j none) ≡ true
 unfolding all_once once
 rule-once k [] h j = refl
 rule-once k (r ∷ rs) h zero = (both (once k r) (all_once k rs) h).0
@@ -155,7 +157,7 @@ count-other k g gs e =
     let b = cond-false {A = ℕ} (g.category == k) 1 0 e in
     omega (arith, a, b)
 
-reach-count : (k : ℕ) (p : Glyphs → Bool) → PassesOthers k p → (gs : Glyphs) (m : ℕ)
+pub reach-count : (k : ℕ) (p : Glyphs → Bool) → PassesOthers k p → (gs : Glyphs) (m : ℕ)
     → count_in k (take (reach_of p gs m) gs) ≡ count k (take m (read_of p gs))
 reach-count k p others [] m = ap (count k) (sym (take-nil m))
 reach-count k p others (g ∷ gs) zero = by (p (g ∷ gs)) refl (reach-count k p others gs 0)
@@ -189,7 +191,7 @@ begins-once k g h others gs span b =
 -- ---- the syllables of a cut
 
 -- the byte of a syllable is no category
-count-in-syllable : (k byte : ℕ) (gs : Glyphs) → count_in k (map (in_syllable byte) gs) ≡ count_in k gs
+pub count-in-syllable : (k byte : ℕ) (gs : Glyphs) → count_in k (map (in_syllable byte) gs) ≡ count_in k gs
 count-in-syllable k byte [] = refl
 count-in-syllable k byte (g ∷ gs) =
     sum_by-cons (λ (h : Glyph). cond (h.category == k) 1 0) (in_syllable byte g) (map (in_syllable byte) gs)
@@ -199,63 +201,84 @@ count-in-syllable k byte (g ∷ gs) =
 abbrev pub Few : ℕ → Glyphs → Type 0
 Few k gs = count_in k gs ≤ 1
 
--- a span in front whose glyphs have it at most once, and what is cut behind it
-first-few : (k i : ℕ) (span : Span) (spans : List Span) (gs : Glyphs) → All (λ s. s.kind ≤ 15) (span ∷ spans)
-    → spans_cover (length gs) (span ∷ spans) ≡ true → count_in k (take span.len gs) ≤ 1
-    → AllByRecursion (Few k) (syllables (with_bytes (drop span.len gs) (span_bytes (suc i) spans)))
-    → AllByRecursion (Few k) (syllables (with_bytes gs (span_bytes i (span ∷ spans))))
-first-few k i span spans gs kinds covers few rest =
-    let e = count-in-syllable k (span_byte i span) (take span.len gs) in
-    subst (AllByRecursion (Few k)) (sym (cut_next i span spans gs kinds covers)) (omega (arith, e, few), rest)
+-- a property that the bytes of syllables don't touch, and that holds of what each syllable of a
+-- grammar covers, from a glyph on that is read
+abbrev pub ReadsNoByte : (Glyphs → Type 0) → Type 0
+ReadsNoByte P = (byte : ℕ) (gs : Glyphs) → P gs → P (map (in_syllable byte) gs)
 
-cut-few : (k i : ℕ) (g : Grammar) → all_once k g.rules ≡ true → PassesOthers k g.passes → (gs : Glyphs)
-    (spans : List Span) → IsCutFrom g gs spans → All (λ s. s.kind ≤ 15) spans → spans_cover (length gs) spans ≡ true
-    → AllByRecursion (Few k) (syllables (with_bytes gs (span_bytes i spans)))
-cut-few k i g h others gs [] cut kinds covers =
-    subst (λ (hs : Glyphs). AllByRecursion (Few k) (syllables (with_bytes hs []))) (sym cut) tt
-cut-few k i g h others gs (span ∷ spans) cut kinds covers =
+abbrev pub HoldsOfSpans : Grammar → (Glyphs → Type 0) → Type 0
+HoldsOfSpans g P = (gs : Glyphs) (span : Span) → g.passes gs ≡ false → BeginsWith g gs span → P (take span.len gs)
+
+-- a span in front of which it holds, and what is cut behind it
+first-each : (P : Glyphs → Type 0) → ReadsNoByte P → (i : ℕ) (span : Span) (spans : List Span) (gs : Glyphs)
+    → All (λ s. s.kind ≤ 15) (span ∷ spans) → spans_cover (length gs) (span ∷ spans) ≡ true → P (take span.len gs)
+    → AllByRecursion P (syllables (with_bytes (drop span.len gs) (span_bytes (suc i) spans)))
+    → AllByRecursion P (syllables (with_bytes gs (span_bytes i (span ∷ spans))))
+first-each P byteless i span spans gs kinds covers held rest =
+    subst (AllByRecursion P) (sym (cut_next i span spans gs kinds covers))
+    (byteless (span_byte i span) (take span.len gs) held, rest)
+
+cut-each : (P : Glyphs → Type 0) → ReadsNoByte P → (i : ℕ) (g : Grammar) → g.passes [] ≡ false → HoldsOfSpans g P
+    → (gs : Glyphs) (spans : List Span) → g.passes gs ≡ false → IsCutFrom g gs spans → All (λ s. s.kind ≤ 15) spans
+    → spans_cover (length gs) spans ≡ true → AllByRecursion P (syllables (with_bytes gs (span_bytes i spans)))
+cut-each P byteless i g start holds gs [] read cut kinds covers =
+    subst (λ (hs : Glyphs). AllByRecursion P (syllables (with_bytes hs []))) (sym cut) tt
+cut-each P byteless i g start holds gs (span ∷ spans) read cut kinds covers =
     let first = covers_first (length gs) span spans covers in
     let left = ap (λ n. spans_cover n spans) (length-drop span.len gs) ∙ first.rest in
-    first-few k i span spans gs kinds covers (begins-once k g h others gs span cut.0)
-    (cut-few k (suc i) g h others (drop span.len gs) spans cut.1
+    let next : g.passes (drop span.len gs) ≡ false = subst (λ n. g.passes (drop n gs) ≡ false) (sym cut.0.len)
+    (behind-reach g.passes start gs cut.0.read.len) in
+    first-each P byteless i span spans gs kinds covers (holds gs span read cut.0)
+    (cut-each P byteless (suc i) g start holds (drop span.len gs) spans next cut.1
     (All-tail (λ (s : Span). s.kind ≤ 15) span spans kinds) left)
 
 -- the span of what is passed over in front
-lead-some : (n kind : ℕ) → (let lead : Span = record { len = suc n; kind = kind } in lead_spans (suc n) kind
+pub lead-some : (n kind : ℕ) → (let lead : Span = record { len = suc n; kind = kind } in lead_spans (suc n) kind
     ≡ lead ∷ [])
 lead-some n kind =
     let lead : Span = record { len = suc n; kind = kind } in
     let none : List Span = [] in
     cond-false (suc n == 0) none (lead ∷ []) (ne_eqb (suc n) 0 (λ e. absurd (omega (arith, e))))
 
--- and what is passed over in front of them
-pub spans-few : (k : ℕ) (g : Grammar) → all_once k g.rules ≡ true → PassesOthers k g.passes → FoundAtMostOne g k
-spans-few k g h others gs spans are =
-    led (reach_of g.passes gs 0) refl are.cut.rest are.cut.cut
+-- So it holds of each syllable of spans that are found, if also of what is passed over in front.
+pub spans-each : (P : Glyphs → Type 0) → ReadsNoByte P → (g : Grammar) → g.passes [] ≡ false → HoldsOfSpans g P
+    → (gs : Glyphs) → P (take (reach_of g.passes gs 0) gs) → (spans : List Span) → AreSpansOf g gs spans
+    → AllByRecursion P (syllables (in_spans gs spans))
+spans-each P byteless g start holds gs front spans are =
+    led (reach_of g.passes gs 0) refl (behind-is-read g.passes start gs) are.cut.rest are.cut.cut
     (subst (All (λ (s : Span). s.kind ≤ 15)) are.cut.whole are.kinds)
     (subst (λ ss. spans_cover (length gs) ss ≡ true) are.cut.whole are.cover) are.cut.whole
   where
-    front : count_in k (take (reach_of g.passes gs 0) gs) ≡ 0
-    front = reach-count k g.passes others gs 0
-
-    led : (n : ℕ) → reach_of g.passes gs 0 ≡ n → (rest : List Span) → IsCutFrom g (drop n gs) rest
-        → All (λ (s : Span). s.kind ≤ 15) (lead_spans n g.other ++ rest)
+    led : (n : ℕ) → reach_of g.passes gs 0 ≡ n → g.passes (drop n gs) ≡ false → (rest : List Span)
+        → IsCutFrom g (drop n gs) rest → All (λ (s : Span). s.kind ≤ 15) (lead_spans n g.other ++ rest)
         → spans_cover (length gs) (lead_spans n g.other ++ rest) ≡ true
-        → spans ≡ lead_spans n g.other ++ rest → AtMostOneEach k (in_spans gs spans)
-    led zero z rest cut kinds covers e =
-        subst (λ ss. AtMostOneEach k (in_spans gs ss)) (sym e) (cut-few k 0 g h others gs rest cut kinds covers)
-    led (suc n) z rest cut kinds covers e =
+        → spans ≡ lead_spans n g.other ++ rest → AllByRecursion P (syllables (in_spans gs spans))
+    led zero z read rest cut kinds covers e =
+        subst (λ ss. AllByRecursion P (syllables (in_spans gs ss))) (sym e)
+        (cut-each P byteless 0 g start holds gs rest read cut kinds covers)
+    led (suc n) z read rest cut kinds covers e =
         let lead : Span = record { len = suc n; kind = g.other } in
         let one = ap (λ (ss : List Span). ss ++ rest) (lead-some n g.other) in
         let all = subst (All (λ (s : Span). s.kind ≤ 15)) one kinds in
         let covered = subst (λ ss. spans_cover (length gs) ss ≡ true) one covers in
         let first = covers_first (length gs) lead rest covered in
         let left = ap (λ m. spans_cover m rest) (length-drop (suc n) gs) ∙ first.rest in
-        let none : count_in k (take (suc n) gs) ≡ 0 = subst (λ m. count_in k (take m gs) ≡ 0) z front in
-        subst (λ ss. AtMostOneEach k (in_spans gs ss)) (sym (e ∙ one))
-        (first-few k 0 lead rest gs all covered (omega (arith, none))
-        (cut-few k 1 g h others (drop (suc n) gs) rest cut
+        subst (λ ss. AllByRecursion P (syllables (in_spans gs ss))) (sym (e ∙ one))
+        (first-each P byteless 0 lead rest gs all covered (subst (λ m. P (take m gs)) z front)
+        (cut-each P byteless 1 g start holds (drop (suc n) gs) rest read cut
         (All-tail (λ (s : Span). s.kind ≤ 15) lead rest all) left))
+
+-- what is passed over in front has the category nowhere
+pub front-none : (k : ℕ) (p : Glyphs → Bool) → PassesOthers k p → (gs : Glyphs)
+    → count_in k (take (reach_of p gs 0) gs) ≡ 0
+front-none k p others gs = reach-count k p others gs 0
+
+pub spans-few : (k : ℕ) (g : Grammar) → all_once k g.rules ≡ true → g.passes [] ≡ false → PassesOthers k g.passes
+    → FoundAtMostOne g k
+spans-few k g h start others gs spans are =
+    let front = front-none k g.passes others gs in
+    spans-each (Few k) (λ byte xs few. let e = count-in-syllable k byte xs in omega (arith, e, few)) g start
+    (λ xs span read b. begins-once k g h others xs span b) gs (omega (arith, front)) spans are
 
 -- ---- the grammars
 
@@ -263,7 +286,7 @@ none_pass : (k : ℕ) → PassesOthers k none_passed
 none_pass k g gs e = absurd (false≢true e)
 
 -- CGJ and ZWNJ are no R
-universal_passes : PassesOthers 18 begins_passed
+pub universal_passes : PassesOthers 18 begins_passed
 universal_passes g gs e = by (g.category == 18) refl
   where
     by : (b : Bool) → (g.category == 18) ≡ b → (g.category == 18) ≡ false
@@ -275,15 +298,15 @@ universal_passes g gs e = by (g.category == 18) refl
 
 pub universal-few : FoundAtMostOne universal_grammar 18
 unfolding universal_grammar universal_rules all_once once never
-universal-few = spans-few 18 universal_grammar refl universal_passes
+universal-few = spans-few 18 universal_grammar refl refl universal_passes
 
 pub indic-few : FoundAtMostOne indic_grammar 14
 unfolding indic_grammar indic_rules all_once once never
-indic-few = spans-few 14 indic_grammar refl (none_pass 14)
+indic-few = spans-few 14 indic_grammar refl refl (none_pass 14)
 
 pub khmer-few : FoundAtMostOne khmer_grammar 14
 unfolding khmer_grammar khmer_rules all_once once never
-khmer-few = spans-few 14 khmer_grammar refl (none_pass 14)
+khmer-few = spans-few 14 khmer_grammar refl refl (none_pass 14)
 
 -- ---- kinds
 

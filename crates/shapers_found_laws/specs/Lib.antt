@@ -2,3 +2,4 @@ pub mod AddsNone
 pub mod FoundIndic
 pub mod FoundPauses
 pub mod FoundSyllables
+pub mod FoundUniversal

@@ -6,6 +6,7 @@ ghost use Rattle.shapers_base.specs.declared.plan.pause.Pause.TheVariants.{Reord
 ghost use Rattle.shapers_found_laws.specs.FoundIndic.{FoundIndicKnows, FoundIndicOpens, FoundIndicSorts, OthersKnow};
 ghost use Rattle.shapers_found_laws.specs.FoundPauses.{FoundCirclesSort, FoundPausesSort, FoundStagesKnow};
 ghost use Rattle.shapers_found_laws.specs.FoundSyllables.{FoundAtMostOne, FoundKindsKnown, KeptAtMostOne, OpensAsItHas, SetUpAtMostOne};
+ghost use Rattle.shapers_found_laws.specs.FoundUniversal.{FoundUniversalOpens, FoundUniversalSorts};
 ghost use Rattle.shapers_spans.specs.Indic.{indic_grammar};
 ghost use Rattle.shapers_spans.specs.Khmer.{khmer_grammar};
 ghost use Rattle.shapers_spans.specs.Myanmar.{myanmar_grammar};
@@ -61,3 +62,12 @@ pub fn found_indic_law()
 {
     monotone_law();
 }
+
+/// In the stages of the universal shaper, whose set-up finds syllables, with a mask of rphf that is
+/// its own, and with lookups that give no syllable a repha: no syllable opens with two rephas where
+/// the reordering opens circles, although one was recorded, so that each pause keeps clusters rising
+/// or falling, and the laws of the pipeline need no premise about it.
+pub fn found_universal_law()
+    ensures opens { FoundUniversalOpens }
+    ensures sorts { FoundUniversalSorts }
+{}
