@@ -9,6 +9,8 @@ pub mod FoundIndic
 pub mod RephasAlone
 pub mod UniversalSetUp
 pub mod FoundUniversal
+pub mod FoundBorders
+mod FoundBorderRows
 mod FoundPauseRows
 mod FoundRows
 mod FoundUniversalRows

@@ -1,4 +1,5 @@
 pub mod AddsNone
+pub mod FoundBorders
 pub mod FoundIndic
 pub mod FoundPauses
 pub mod FoundSyllables

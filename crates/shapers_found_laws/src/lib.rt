@@ -2,7 +2,9 @@
 //! spans. Each function here does nothing, and its contract is the law.
 #![tactic(auto)]
 
+ghost use Rattle.std.specs.Prelude.{[], ◌∷◌};
 ghost use Rattle.shapers_base.specs.declared.plan.pause.Pause.TheVariants.{ReorderKhmer, ReorderMyanmar, SetupSyllablesKhmer, SetupSyllablesMyanmar};
+ghost use Rattle.shapers_found_laws.specs.FoundBorders.{BordersPart, FoundOpensWith};
 ghost use Rattle.shapers_found_laws.specs.FoundIndic.{FoundIndicKnows, FoundIndicOpens, FoundIndicSorts, OthersKnow};
 ghost use Rattle.shapers_found_laws.specs.FoundPauses.{FoundCirclesSort, FoundPausesSort, FoundStagesKnow};
 ghost use Rattle.shapers_found_laws.specs.FoundSyllables.{FoundAtMostOne, FoundKindsKnown, KeptAtMostOne, OpensAsItHas, SetUpAtMostOne};
@@ -70,4 +72,16 @@ pub fn found_indic_law()
 pub fn found_universal_law()
     ensures opens { FoundUniversalOpens }
     ensures sorts { FoundUniversalSorts }
+{}
+
+/// Where borders of syllables that a grammar finds are those of clusters. A syllable of a known whole
+/// kind opens with one of a few categories, letters and their like; so where these begin graphemes,
+/// and what opens other syllables does, and neighbours share a cluster only inside a grapheme, each
+/// border of spans is one of clusters.
+pub fn found_borders_law()
+    ensures indic { FoundOpensWith indic_grammar 3 (1 ∷ 2 ∷ 10 ∷ 11 ∷ 14 ∷ 15 ∷ 17 ∷ 18 ∷ []) }
+    ensures khmer { FoundOpensWith khmer_grammar 0 (1 ∷ 2 ∷ 10 ∷ 11 ∷ 15 ∷ []) }
+    ensures myanmar { FoundOpensWith myanmar_grammar 0 (1 ∷ 2 ∷ 10 ∷ 11 ∷ 15 ∷ 18 ∷ []) }
+    ensures universal { FoundOpensWith universal_grammar 6 (0 ∷ 1 ∷ 4 ∷ 5 ∷ 18 ∷ 43 ∷ 49 ∷ 51 ∷ []) }
+    ensures part { BordersPart }
 {}
