@@ -8,7 +8,6 @@ ghost use Rattle.opentype_gpos.specs.Coming.{came, came_in, nth_came, setting_of
 use crate::moves::{Move, PairPlace, move_by, pair_by_table};
 use crate::nearby::number;
 use crate::pass::{Pass, Sights};
-use opentype_face::lookup::subtable_count;
 use opentype_layout::glyph_text::GlyphView;
 use opentype_layout::rules::{Matched, find_rule};
 use opentype_layout::starts::LookupTable;
@@ -83,7 +82,7 @@ fn come_among<'a>(
         if found.is_some() {
             return found;
         }
-        let count = subtable_count(lookup.bytes());
+        let count = lookup.count();
         if i + 1 >= count {
             return None;
         }
@@ -106,7 +105,7 @@ fn come_first<'a>(
     ensures { option_map came result ≡ first_from (subtables_in lookup.now)
         (nth_came (setting_of pass.now) sights.now lookup.now glyphs.now at) 0 }
 {
-    let count = subtable_count(lookup.bytes());
+    let count = lookup.count();
     let mut i = 0;
     while i < count {
         let Some(table) = lookup.pair_table(i) else {

@@ -1,6 +1,6 @@
 -- A text stays as it is where a lookup can't begin.
 use Rattle.std.proofs.Common.{◌⊎◌, inl, inr, ◌≡◌, ◌∙◌, ℕ, zero, suc, ◌+◌, ◌-◌, ◌%◌, ◌==◌, ◌<◌, ◌≤◌, ◌||◌, ◌&&◌, not, Bool, true, false, nat_lt, bit_and, Option, None, Some, List, [], length, refl, sym, ap, subst, arith, if◌then◌else◌}
-use Rattle.std.specs.Option.{is_some, unwrap_or}
+use Rattle.std.specs.Option.{is_some}
 use Rattle.std.proofs.lemmas.Bool.Decides.{nat_tests}
 use Rattle.std.proofs.lemmas.Grind.{common_steps}
 use Rattle.std.specs.Prelude.{Err, Ok, OnOk, Result}
@@ -226,11 +226,11 @@ pub left_unmasked : (use_of : LookupUse) (lookup : List ℕ) (g : Glyph) → bit
     is_left use_of lookup g ≡ true
 left_unmasked use_of lookup g e = left_masked use_of lookup g (rw e refl)
 
-pub left_unstarted : (use_of : LookupUse) (lookup : List ℕ) (g : Glyph) (o : Option ℕ) (number : ℕ) (none : Bool) →
-    NoneStarts false lookup number 0 (unwrap_or o (subtables_in lookup)) → number ≡ g.glyph_id % 65536 →
-    is_some o ≡ not none → none ≡ true → is_left use_of lookup g ≡ true
-left_unstarted use_of lookup g None number none n is e all = left_none use_of lookup g (rw is at n)
-left_unstarted use_of lookup g (Some x) number none n is e all = absurd (let no = rw all at e in cc)
+pub left_unstarted : (use_of : LookupUse) (lookup : List ℕ) (g : Glyph) (number : ℕ) (may : Bool) →
+    (may ≡ false → NoneStarts false lookup number 0 (subtables_in lookup)) → number ≡ g.glyph_id % 65536 →
+    not may ≡ true → is_left use_of lookup g ≡ true
+left_unstarted use_of lookup g number false none is e = left_none use_of lookup g (rw is at (none refl))
+left_unstarted use_of lookup g number true none is e = absurd (cc)
 
 left_passed : (use_of : LookupUse) (lookup : List ℕ) (g : Glyph) → IsPassed false lookup use_of.mask g →
     is_left use_of lookup g ≡ true

@@ -18,7 +18,6 @@ use crate::shifting::Rule;
 use crate::trying::flag_tried;
 use arrayvec::ArrayVec;
 use opentype_face::bytes::u16_at;
-use opentype_face::lookup::subtable_count;
 use opentype_layout::glyph_text::{GlyphText, GlyphView};
 use opentype_layout::rules::{Matched, find_rule};
 use opentype_layout::sight::number;
@@ -122,8 +121,8 @@ fn come_among<'a>(
         (nth_came (setting_of pass.now) sights.now lookup.now at text.old lookups.old) 0)
         text.old lookups.old text.new lookups.new outcome) }
 {
-    let (bytes, glyph) = (lookup.bytes(), number(text.at(at)));
-    let (count, mut from) = (subtable_count(bytes), 0);
+    let glyph = number(text.at(at));
+    let (count, mut from) = (lookup.count(), 0);
     while from < count {
         let Some(i) = lookup.next_start(false, glyph, from) else {
             return Ok(Outcome::Nothing);

@@ -1,5 +1,5 @@
 //! Lookups that add no glyphs and have no rules, in the buffer's own list.
-ghost use Rattle.std.specs.Prelude.{◌≡◌, ◌<◌, ◌≤◌, true, false, length, unwrap_or, IfSome, []};
+ghost use Rattle.std.specs.Prelude.{◌≡◌, ◌<◌, true, false, length, []};
 ghost use Rattle.opentype_face.specs.Firsts.{first_from};
 ghost use Rattle.opentype_face.specs.Lookups.{subtables_in, type_in};
 ghost use Rattle.opentype_gsub.specs.Along.{lookup_stepped};
@@ -11,14 +11,12 @@ ghost use Rattle.opentype_gsub.specs.Presence.{applied_from};
 ghost use Rattle.opentype_gsub.specs.Setting.{how_of, setting_of};
 ghost use Rattle.opentype_gsub.specs.declared.pass.Sights.{Sights};
 ghost use Rattle.opentype_layout.specs.Sight.{sight_of_input};
-ghost use Rattle.opentype_layout.specs.Starts.{NoneStarts};
 
 use crate::apply::apply_in_room;
 use crate::pass::Pass;
 use crate::presence::next_place;
 use crate::trying::flag_tried;
 use opentype_face::bytes::u16_at;
-use opentype_face::lookup::subtable_count;
 use opentype_layout::glyph_text::GlyphText;
 use opentype_layout::sight::{Sight, number};
 use opentype_layout::starts::LookupTable;
@@ -37,8 +35,7 @@ fn is_plain(kind: u16) -> bool
 pub(crate) fn are_plain(lookup: &LookupTable<'_>) -> bool
     ensures { result ≡ true → ArePlain lookup.now }
 {
-    let bytes = lookup.bytes();
-    let (count, kind) = (subtable_count(bytes), u16_at(bytes, 0));
+    let (count, kind) = (lookup.count(), u16_at(lookup.bytes(), 0));
     // (only in type 7 subtables have types of their own)
     if kind != 7 {
         return count > 0 && is_plain(kind);
@@ -75,21 +72,6 @@ fn put_by(
     apply_in_room(pass, sight, &subtable, text, lookups, at)
 }
 
-// The next subtable from one on that is to be tried at a glyph; those between don't begin there. (A
-// single one is quickly tried.)
-#[inline]
-fn next_tried(lookup: &LookupTable<'_>, count: u16, glyph: u16, from: u16) -> Option<u16>
-    requires count { count ≡ subtables_in lookup.now }
-    requires from { from < count }
-    ensures within { IfSome result (λ next. (from ≤ next) × (next < subtables_in lookup.now)) }
-    ensures passed { NoneStarts false lookup.now glyph from (unwrap_or result (subtables_in lookup.now)) }
-{
-    if count == 1 {
-        return Some(from);
-    }
-    lookup.next_start(false, glyph, from)
-}
-
 // What the first of a lookup's subtables that fits does at a place.
 #[inline]
 fn put_among(
@@ -108,9 +90,9 @@ fn put_among(
         text.old lookups.old text.new lookups.new (outcome_of result) }
 {
     let glyph = number(text.at(at));
-    let (count, mut from) = (subtable_count(lookup.bytes()), 0);
+    let (count, mut from) = (lookup.count(), 0);
     while from < count {
-        let Some(i) = next_tried(lookup, count, glyph, from) else {
+        let Some(i) = lookup.next_start(false, glyph, from) else {
             return None;
         };
         match put_by(pass, sight, lookup, i, glyph, text, lookups, at) {

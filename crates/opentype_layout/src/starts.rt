@@ -481,14 +481,25 @@ impl<'a> LookupTable<'a> {
         }
     }
 
+    /// How many subtables it has.
+    #[inline]
+    pub fn count(&self) -> u16
+        ensures { result ≡ subtables_in self.now }
+    {
+        self.count
+    }
+
     /// The next subtable from one on that is to be tried at a glyph; those between don't begin
-    /// there.
+    /// there. (A single one is quickly tried.)
     #[inline]
     pub fn next_start(&self, of_gpos: bool, glyph: u16, from: u16) -> Option<u16>
         ensures within { IfSome result (λ next. (from ≤ next) × (next < subtables_in self.now)) }
         ensures passed { NoneStarts of_gpos self.now glyph from
             (unwrap_or result (subtables_in self.now)) }
     {
+        if self.count == 1 && from == 0 {
+            return Some(0);
+        }
         if let Some(starts) = self.starts {
             return starts.next(of_gpos, glyph, from);
         }

@@ -36,4 +36,4 @@ returns-in_default c = coming_ended (setting_of c.args.pass.now) c.args.sights.n
     c.loop-from.invariant c.in_default.ensures.passed (rw c.at.ensures.glyph at c.number-glyph.ensures)
 
 pub returns : goal.returns
-returns c = coming_none _ _ _ _ _ _ _ c.loop-from.invariant (let count = rw c.bytes-bytes.ensures at c.subtable_count-count.ensures in omega arith)
+returns c = coming_none _ _ _ _ _ _ _ c.loop-from.invariant (omega (arith, c.count-count.ensures))

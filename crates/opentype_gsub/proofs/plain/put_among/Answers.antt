@@ -45,4 +45,4 @@ loop-from-preserved c = λ sights is. (
 
 pub returns : goal.returns
 returns c = λ sights is. coming_none _ _ _ _ _ _ _ (c.loop-from.invariant sights is)
-    (let count = rw c.bytes.ensures at c.subtable_count-count.ensures in omega arith)
+    (omega (arith, c.count-count.ensures))

@@ -6,4 +6,4 @@ pub returns-then-glyph-lookup_use-eq0 : goal.returns-then-glyph-lookup_use-eq0
 returns-then-glyph-lookup_use-eq0 c = λ _. left_unmasked _ _ _ (omega arith)
 
 pub returns : goal.returns
-returns c = left_unstarted _ _ _ c.next_start.result _ _ c.next_start.ensures.passed c.number.ensures c.is_none.ensures
+returns c = λ passed. left_unstarted _ _ _ c.number.result c.may_begin.result c.may_begin.ensures c.number.ensures passed

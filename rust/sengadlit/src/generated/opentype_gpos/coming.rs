@@ -2,7 +2,6 @@
 
 //! What a lookup of GPOS comes to at a place of a text.
 
-use crate::generated::opentype_face::lookup::subtable_count;
 use crate::generated::opentype_gpos::moves::{Move, PairPlace, move_by, pair_by_table};
 use crate::generated::opentype_gpos::nearby::number;
 use crate::generated::opentype_gpos::pass::{Pass, Sights};
@@ -71,7 +70,7 @@ fn come_among<'a>(
         if found.is_some() {
             return found;
         }
-        let count = subtable_count(lookup.bytes());
+        let count = lookup.count();
         if i + 1 >= count {
             return None;
         }
@@ -90,7 +89,7 @@ fn come_first<'a>(
     glyphs: &[GlyphInfo],
     at: usize,
 ) -> Option<Came<'a>> {
-    let count = subtable_count(lookup.bytes());
+    let count = lookup.count();
     let mut i = 0;
     while i < count {
         let Some(table) = lookup.pair_table(i) else {

@@ -3,7 +3,6 @@
 //! Lookups that rules apply, on a stack in the place of a recursion.
 
 use crate::generated::opentype_face::bytes::u16_at;
-use crate::generated::opentype_face::lookup::subtable_count;
 use crate::generated::opentype_gsub::apply::apply_one;
 use crate::generated::opentype_gsub::flagging::flag_stretch;
 use crate::generated::opentype_gsub::pass::{Pass, Sights};
@@ -96,8 +95,8 @@ fn come_among<'a>(
     lookups: &mut LookupRecord,
     at: usize,
 ) -> Result<Outcome<'a>, ShaperError> {
-    let (bytes, glyph) = (lookup.bytes(), number(text.at(at)));
-    let (count, mut from) = (subtable_count(bytes), 0);
+    let glyph = number(text.at(at));
+    let (count, mut from) = (lookup.count(), 0);
     while from < count {
         let Some(i) = lookup.next_start(false, glyph, from) else {
             return Ok(Outcome::Nothing);

@@ -5,7 +5,6 @@
 use crate::support::prelude::*;
 
 use crate::generated::opentype_face::bytes::u16_at;
-use crate::generated::opentype_face::lookup::subtable_count;
 use crate::generated::opentype_gsub::apply::apply_in_room;
 use crate::generated::opentype_gsub::pass::Pass;
 use crate::generated::opentype_gsub::presence::next_place;
@@ -24,8 +23,7 @@ fn is_plain(kind: u16) -> bool {
 /// Whether a lookup's table has subtables, and all of them put single glyphs in.
 #[inline]
 pub(crate) fn are_plain(lookup: &LookupTable<'_>) -> bool {
-    let bytes = lookup.bytes();
-    let (count, kind) = (subtable_count(bytes), u16_at(bytes, 0));
+    let (count, kind) = (lookup.count(), u16_at(lookup.bytes(), 0));
     // (only in type 7 subtables have types of their own)
     if kind != 7 {
         return count > 0 && is_plain(kind);
@@ -54,16 +52,6 @@ fn put_by(
     apply_in_room(pass, sight, &subtable, text, lookups, at)
 }
 
-// The next subtable from one on that is to be tried at a glyph; those between don't begin there. (A
-// single one is quickly tried.)
-#[inline]
-fn next_tried(lookup: &LookupTable<'_>, count: u16, glyph: u16, from: u16) -> Option<u16> {
-    if count == 1 {
-        return Some(from);
-    }
-    lookup.next_start(false, glyph, from)
-}
-
 // What the first of a lookup's subtables that fits does at a place.
 #[inline]
 fn put_among(
@@ -75,9 +63,9 @@ fn put_among(
     at: usize,
 ) -> Option<usize> {
     let glyph = number(text.at(at));
-    let (count, mut from) = (subtable_count(lookup.bytes()), 0);
+    let (count, mut from) = (lookup.count(), 0);
     while from < count {
-        let Some(i) = next_tried(lookup, count, glyph, from) else {
+        let Some(i) = lookup.next_start(false, glyph, from) else {
             return None;
         };
         match put_by(pass, sight, lookup, i, glyph, text, lookups, at) {

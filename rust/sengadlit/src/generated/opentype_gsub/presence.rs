@@ -18,7 +18,7 @@ pub(crate) fn is_passed(
     if glyph.mask & lookup_use.mask == 0 {
         return true;
     }
-    lookup.next_start(false, number(glyph), 0).is_none()
+    !lookup.may_begin(false, number(glyph))
 }
 
 /// A place of a text before which a lookup can't begin; the text's length, if it begins nowhere. Where

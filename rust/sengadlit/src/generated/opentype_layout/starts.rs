@@ -515,8 +515,26 @@ impl<'a> LookupTable<'a> {
         }
     }
 
+    /// How many subtables it has.
+    ///
+    /// <details><summary>Contract</summary>
+    ///
+    /// # Contract
+    ///
+    /// ```text
+    /// ensures { result ≡ subtables_in self.now }
+    /// ```
+    ///
+    /// - `subtables_in`: `crates/opentype_face/specs/Lookups.antt`
+    ///
+    /// </details>
+    #[inline]
+    pub fn count(&self) -> u16 {
+        self.count
+    }
+
     /// The next subtable from one on that is to be tried at a glyph; those between don't begin
-    /// there.
+    /// there. (A single one is quickly tried.)
     ///
     /// <details><summary>Contract</summary>
     ///
@@ -534,6 +552,9 @@ impl<'a> LookupTable<'a> {
     /// </details>
     #[inline]
     pub fn next_start(&self, of_gpos: bool, glyph: u16, from: u16) -> Option<u16> {
+        if self.count == 1 && from == 0 {
+            return Some(0);
+        }
         if let Some(starts) = self.starts {
             return starts.next(of_gpos, glyph, from);
         }
