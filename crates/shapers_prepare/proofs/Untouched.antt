@@ -9,6 +9,7 @@ use Rattle.shapers_base.specs.Font.{Font}
 use Rattle.shapers_buffer.specs.Glyphs.{Glyph, Glyphs}
 use Rattle.shapers_buffer.specs.declared.buffer.level.BufferClusterLevel.{BufferClusterLevel}
 use Rattle.shapers_buffer.specs.declared.buffer.level.BufferClusterLevel.TheVariants.{Characters, MonotoneCharacters, MonotoneGraphemes}
+use Rattle.shapers_buffer.specs.declared.buffer.level.Direction.TheVariants.{RightToLeft}
 use Rattle.shapers_buffer.specs.Clusters.{merge, merge_all, merged}
 use Rattle.shapers_buffer.specs.GlyphFlags.{flagged, unsafe_all, unsafe_inside, with_bits}
 use Rattle.shapers_buffer.specs.Properties.{is_continuation}
@@ -33,6 +34,18 @@ rotated-none p font r none [] = refl
 rotated-none p font r none (g ∷ gs) =
     let both = or_parts (goes_backward r.direction) (goes_vertically r.direction && not r.has_vert) none in
     cc (rotated-one p font r g both.0 both.1, rotated-none p font r none gs)
+
+-- From right to left each character is mirrored, and nothing else.
+mirrored-one : (p : CharacterProperties) (font : Font) (r : CharRotation) (g : Glyph)
+    → r.direction ≡ RightToLeft → rotated_glyph p font r g ≡ mirrored_glyph p font r.rtlm_mask g
+mirrored-one p font r g is =
+    ap (λ d. let m = cond (goes_backward d) (mirrored_glyph p font r.rtlm_mask g) g in
+    cond (goes_vertically d && not r.has_vert) (upright_glyph p font m) m) is
+
+pub mirrored-all : (p : CharacterProperties) (font : Font) (r : CharRotation) → r.direction ≡ RightToLeft
+    → (gs : Glyphs) → map (mirrored_glyph p font r.rtlm_mask) gs ≡ map (rotated_glyph p font r) gs
+mirrored-all p font r is [] = refl
+mirrored-all p font r is (g ∷ gs) = cc (mirrored-one p font r g is, mirrored-all p font r is gs)
 
 -- one glyph is merged with none
 merged-one : (s e : ℕ) (gs : Glyphs) → e ≡ s + 1 → merge MonotoneGraphemes s e gs ≡ gs

@@ -50,13 +50,23 @@ fn rotate_each<U: UnicodeProperties, F: hb_font_t>(
         let text = map (rotated_glyph p (F.font font.now) rotation) buffer.old.glyphs in
         buffer.new ≡ record buffer.old { glyphs = text } }
 {
-    let rotating = Rotating {
-        unicode,
-        font,
-        rotation,
-    };
     // (a font that panics leaves the empty buffer, and no text with some characters rotated)
-    buffer.change_outside(&rotating);
+    match rotation.direction {
+        // (so that the direction isn't asked for at each character)
+        Direction::RightToLeft => {
+            let rtlm_mask = rotation.rtlm_mask;
+            buffer.change_outside(&Mirroring {
+                unicode,
+                font,
+                rtlm_mask,
+            });
+        }
+        _ => buffer.change_outside(&Rotating {
+            unicode,
+            font,
+            rotation,
+        }),
+    }
 }
 
 // Whether a text goes in a direction for which characters are rotated.
@@ -69,7 +79,26 @@ fn rotates(rotation: CharRotation) -> bool
     goes_backward(rotation.direction) || (goes_vertically(rotation.direction) && !rotation.has_vert)
 }
 
-// The change of one glyph.
+// The change of one glyph in text from right to left.
+#[derive(Drop)]
+struct Mirroring<'a, U: UnicodeProperties, F: hb_font_t> {
+    unicode: &'a U,
+    font: &'a F,
+    rtlm_mask: u32,
+}
+
+impl<'a, U: UnicodeProperties, F: hb_font_t> GlyphChange for Mirroring<'a, U, F> {
+    ghost use Rattle.shapers_prepare.specs.Rotation.{mirrored_glyph};
+
+    ghost changed = { λ m g. mirrored_glyph (U.properties m.unicode.now) (F.font m.font.now) m.rtlm_mask g };
+
+    #[inline]
+    fn change(&self, glyph: &mut hb_glyph_info_t) {
+        mirror(self.unicode, self.font, self.rtlm_mask, glyph);
+    }
+}
+
+// The change of one glyph, whatever the direction.
 #[derive(Drop)]
 struct Rotating<'a, U: UnicodeProperties, F: hb_font_t> {
     unicode: &'a U,

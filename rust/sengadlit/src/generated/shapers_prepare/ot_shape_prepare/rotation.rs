@@ -56,13 +56,23 @@ fn rotate_each<U: UnicodeProperties, F: Font>(
     rotation: CharRotation,
     buffer: &mut Buffer,
 ) {
-    let rotating = Rotating {
-        unicode,
-        font,
-        rotation,
-    };
     // (a font that panics leaves the empty buffer, and no text with some characters rotated)
-    buffer.change_outside(&rotating);
+    match rotation.direction {
+        // (so that the direction isn't asked for at each character)
+        Direction::RightToLeft => {
+            let rtlm_mask = rotation.rtlm_mask;
+            buffer.change_outside(&Mirroring {
+                unicode,
+                font,
+                rtlm_mask,
+            });
+        }
+        _ => buffer.change_outside(&Rotating {
+            unicode,
+            font,
+            rotation,
+        }),
+    }
 }
 
 // Whether a text goes in a direction for which characters are rotated.
@@ -71,7 +81,21 @@ fn rotates(rotation: CharRotation) -> bool {
     goes_backward(rotation.direction) || (goes_vertically(rotation.direction) && !rotation.has_vert)
 }
 
-// The change of one glyph.
+// The change of one glyph in text from right to left.
+struct Mirroring<'a, U: UnicodeProperties, F: Font> {
+    unicode: &'a U,
+    font: &'a F,
+    rtlm_mask: u32,
+}
+
+impl<'a, U: UnicodeProperties, F: Font> GlyphChange for Mirroring<'a, U, F> {
+    #[inline]
+    fn change(&self, glyph: &mut GlyphInfo) {
+        mirror(self.unicode, self.font, self.rtlm_mask, glyph);
+    }
+}
+
+// The change of one glyph, whatever the direction.
 struct Rotating<'a, U: UnicodeProperties, F: Font> {
     unicode: &'a U,
     font: &'a F,
