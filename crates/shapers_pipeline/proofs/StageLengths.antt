@@ -1,5 +1,5 @@
 -- How long stages make a text, and what comes behind them.
-use Rattle.std.proofs.Common.{◌≡◌, ◌∙◌, ℕ, ◌+◌, ◌*◌, ◌<◌, ◌≤◌, ◌≢◌, Bool, true, false, List, [], ◌∷◌, drop, get_or, inl, inr, length, map, refl, sym, ap, subst, arith}
+use Rattle.std.proofs.Common.{◌≡◌, ◌∙◌, ℕ, ◌+◌, ◌-◌, ◌*◌, ◌<◌, ◌≤◌, ◌≢◌, Bool, true, false, List, [], ◌∷◌, take, drop, get_or, inl, inr, length, map, refl, sym, ap, subst, arith}
 use Rattle.std.specs.Prelude.{IfErr, IsOk, OnOk, Option, None, Some, Result, Ok, Err, option_map}
 use Rattle.std.specs.Option.{option_map_or}
 use Rattle.std.specs.Result.{IsErrAnd}
@@ -41,6 +41,23 @@ use Rattle.shapers_pipeline.specs.Lookups.{LookupRefusals, MayRefuse, StoppedIn,
 use Rattle.shapers_pipeline.specs.Prepared.{text_prepared}
 use Rattle.shapers_pipeline.specs.Stages.{PauseRunIf, StageRun, StageStopped, StagesRun, StagesStopped, Substitution, stage_looked_up}
 use Rattle.shapers_pipeline.proofs.Pausing.{pause_positions}
+
+-- a stage that ends where it starts, or before, has no lookups
+pub no_lookups : (s : Stage) (list : List StageLookup) → s.end ≤ s.start → lookups_of_stage s list ≡ []
+no_lookups s list none =
+    let few : s.end - s.start ≡ 0 = omega arith in
+    ap (λ n. take n (drop s.start list)) few
+
+-- no lookups change nothing
+pub nothing_looked_up : (f : StageLookup → Buffer → Buffer) (list : List StageLookup) (b : Buffer)
+    → length list ≡ 0 → looked_up f list b ≡ b
+nothing_looked_up f [] b none = refl
+nothing_looked_up f (x ∷ xs) b none = absurd (omega arith)
+
+pub nothing_grown : (growth : StageLookup → ℕ) (list : List StageLookup) (n : ℕ) → length list ≡ 0
+    → looked_up_bound growth list n ≡ n
+nothing_grown growth [] n none = refl
+nothing_grown growth (x ∷ xs) n none = absurd (omega arith)
 
 -- ---- bounds
 

@@ -186,6 +186,7 @@ impl<'a, L: Lookups> GlyphChange for Noting<'a, L> {
 
 // Applies the lookups of a stage, and tells how long the text gets.
 #[inline]
+#[tactic(auto, using(crate::proofs::StageLengths::nothing_looked_up, crate::proofs::StageLengths::nothing_grown))]
 pub(crate) fn apply_lookups<L: Lookups>(
     lookups: &L,
     list: &[StageLookup],
@@ -206,5 +207,9 @@ pub(crate) fn apply_lookups<L: Lookups>(
     ensures positions { OnOk result (buffer.new.positions ≡ []) }
     ensures limit { buffer.new.max_len ≡ buffer.old.max_len }
 {
+    // (so that a stage without lookups costs no call)
+    if list.is_empty() {
+        return Ok(());
+    }
     lookups.substitute_all(list, buffer)
 }

@@ -213,5 +213,9 @@ pub(crate) fn apply_lookups<L: Lookups>(
     list: &[StageLookup],
     buffer: &mut Buffer,
 ) -> Result<(), ShaperError> {
+    // (so that a stage without lookups costs no call)
+    if list.is_empty() {
+        return Ok(());
+    }
     lookups.substitute_all(list, buffer)
 }

@@ -113,6 +113,10 @@ fn run_stage<F: Font, L: Lookups>(
 // The lookups of a stage, as far as the list goes.
 #[inline]
 pub(crate) fn lookups_of_stage(stage: Stage, list: &[StageLookup]) -> &[StageLookup] {
+    // (many stages have a pause alone, or nothing of this font)
+    if stage.end <= stage.start {
+        return &[];
+    }
     let end = stage.end.min(list.len());
     let start = stage.start.min(end);
     &list[start..end]
