@@ -1,13 +1,16 @@
 //! Hebrew: the order of marks, and the letters that compose with points where the font places no
 //! marks.
-ghost use Rattle.std.specs.Prelude.{◌≡◌, ◌==◌, ◌&&◌, ◌≤◌, find, length, option_map, is_some, false, swap, ◌+◌, ◌^◌, ◌<◌, IfSome};
+ghost use Rattle.std.specs.Prelude.{◌≡◌, ◌==◌, ◌&&◌, ◌||◌, ◌≤◌, find, length, option_map, is_some, false, swap, ◌+◌, ◌^◌, ◌<◌, IfSome};
 ghost use Rattle.shapers_buffer.specs.Clusters.{merge};
 ghost use Rattle.shapers_buffer.specs.Glyph.{order_view};
+ghost use Rattle.shapers_buffer.specs.Properties.{modified_combining_class};
 ghost use Rattle.shapers_clusters.specs.Steps.{after_step};
 ghost use Rattle.shapers_text.specs.Hebrew.{hebrew_mark_step, marks_swapped, HebrewMarksReordered, second_of_triple, begins_triple, hebrew_form, composed_in_hebrew, lacks_dagesh, is_in_dagesh_row, pairs};
 
 use shapers_base::buffer::modified_combining_class::{BELOW, CCC10, CCC14, CCC17, CCC18, CCC22};
-use shapers_base::buffer::{BufferClusterLevel, hb_buffer_t, hb_glyph_info_t, merge_clusters_in};
+use shapers_base::buffer::{
+    BufferClusterLevel, UnicodeProps, hb_buffer_t, hb_glyph_info_t, merge_clusters_in,
+};
 use shapers_base::font::Tables;
 use shapers_base::plan::hb_ot_shape_plan_t;
 
@@ -89,9 +92,23 @@ fn begins_triple(marks: &[hb_glyph_info_t]) -> bool
     let [a, b, c, ..] = marks else {
         return false;
     };
-    matches!(a.unicode_props.modified_combining_class(), CCC17 | CCC18)
-        && matches!(b.unicode_props.modified_combining_class(), CCC10 | CCC14)
-        && matches!(c.unicode_props.modified_combining_class(), CCC22 | BELOW)
+    is_of_class(a.unicode_props, CCC17, CCC18)
+        && is_of_class(b.unicode_props, CCC10, CCC14)
+        && is_of_class(c.unicode_props, CCC22, BELOW)
+}
+
+// Whether a character's class is one of these two, which aren't 0. (The category says whether the
+// high byte is a class; it is read only where the byte would be one of them.)
+#[inline]
+#[tactic(auto, unfolding(shapers_buffer::specs::Properties::modified_combining_class))]
+fn is_of_class(props: UnicodeProps, first: u8, second: u8) -> bool
+    requires first { 0 < first }
+    requires second { 0 < second }
+    ensures { let class = modified_combining_class props in
+        result ≡ (class == first || class == second) }
+{
+    let byte = props.high_byte();
+    (byte == first || byte == second) && props.general_category().has_class()
 }
 
 /// The composition of two characters: the table's, or else, where GPOS places no marks, the Hebrew

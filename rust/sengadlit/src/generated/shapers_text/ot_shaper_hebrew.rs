@@ -7,7 +7,7 @@ use crate::generated::shapers_base::buffer::modified_combining_class::{
     BELOW, CCC10, CCC14, CCC17, CCC18, CCC22,
 };
 use crate::generated::shapers_base::buffer::{
-    Buffer, BufferClusterLevel, GlyphInfo, merge_clusters_in,
+    Buffer, BufferClusterLevel, GlyphInfo, UnicodeProps, merge_clusters_in,
 };
 use crate::generated::shapers_base::font::Tables;
 use crate::generated::shapers_base::plan::Plan;
@@ -108,9 +108,17 @@ fn begins_triple(marks: &[GlyphInfo]) -> bool {
     let [a, b, c, ..] = marks else {
         return false;
     };
-    matches!(a.unicode_props.modified_combining_class(), CCC17 | CCC18)
-        && matches!(b.unicode_props.modified_combining_class(), CCC10 | CCC14)
-        && matches!(c.unicode_props.modified_combining_class(), CCC22 | BELOW)
+    is_of_class(a.unicode_props, CCC17, CCC18)
+        && is_of_class(b.unicode_props, CCC10, CCC14)
+        && is_of_class(c.unicode_props, CCC22, BELOW)
+}
+
+// Whether a character's class is one of these two, which aren't 0. (The category says whether the
+// high byte is a class; it is read only where the byte would be one of them.)
+#[inline]
+fn is_of_class(props: UnicodeProps, first: u8, second: u8) -> bool {
+    let byte = props.high_byte();
+    (byte == first || byte == second) && props.general_category().has_class()
 }
 
 /// The composition of two characters: the table's, or else, where GPOS places no marks, the Hebrew
