@@ -9,6 +9,7 @@ pub mod ThaiFormWalks
 pub mod ThaiGuarded
 pub mod ThaiInTwo
 pub mod ThaiKept
+pub mod ThaiOthers
 pub mod ThaiRows
 pub mod ThaiSaraAm
 pub mod ThaiStretches

@@ -34,7 +34,7 @@ count-characters [] = refl
 count-characters (g ∷ gs) = search (arith, sum_by-cons, count-characters gs)
 
 -- a text without SARA AM merges nothing
-stretches_none_after : (level : BufferClusterLevel) (before us : List ℕ) → list_any is_sara_am us ≡ false
+pub stretches_none_after : (level : BufferClusterLevel) (before us : List ℕ) → list_any is_sara_am us ≡ false
     → stretches_of_each level (each_after before us) ≡ []
 stretches_none_after level before [] none = refl
 stretches_none_after level before (u ∷ us) none =

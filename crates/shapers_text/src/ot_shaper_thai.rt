@@ -30,6 +30,7 @@ const THAI: Script = Script(*b"Thai");
 /// them, and are flagged by the plan's `break_flags`.
 /// Refuses as a growth does, and takes no memory for a text without SARA AM. (OpenType's notes on
 /// Thai and Lao, and the note on Thai OpenType shaping.)
+#[inline]
 pub fn preprocess_text<F: hb_font_t>(
     plan: &hb_ot_shape_plan_t,
     face: &F,

@@ -359,6 +359,7 @@ impl<'a, F: hb_font_t> GlyphWalk for PuaShaping<'a, F> {
 
 /// Gives the marks of a Thai text, and bases with descenders, their private use forms, and flags
 /// what the choice adds.
+#[inline(never)]
 pub fn do_pua_shaping<F: hb_font_t>(breaks: BreakFlags, font: &F, buffer: &mut hb_buffer_t)
     ensures { let has = has_nominal (F.font font.now) in
         let flagged = marks_flagged breaks buffer.old.glyphs in

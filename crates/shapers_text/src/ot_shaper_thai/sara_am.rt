@@ -1,6 +1,6 @@
 //! SARA AM in two: NIKHAHIT, which goes before the above-base marks, and SARA AA.
-ghost use Rattle.std.specs.Prelude.{◌≡◌, ◌+◌, ◌^◌, ◌<◌, ◌≤◌, [], true, false, length, take, count_by, None, Some, IsOk, OnOk, OnErr};
-ghost use Rattle.std.specs.List.{list_any};
+ghost use Rattle.std.specs.Prelude.{◌≡◌, ◌+◌, ◌-◌, ◌^◌, ◌<◌, ◌≤◌, [], true, false, not, length, take, count_by, None, Some, IsOk, OnOk, OnErr};
+ghost use Rattle.std.specs.List.{list_any, prefix_len, suffix_len};
 ghost use Rattle.shapers_buffer.specs.Glyph.{characters};
 ghost use Rattle.shapers_buffer.specs.Clusters.{merge_all};
 ghost use Rattle.shapers_buffer.specs.ClusterRanges.{RangeFits, with_range};
@@ -37,14 +37,13 @@ fn nikhahit_from_sara_am(am: hb_glyph_info_t) -> hb_glyph_info_t
     requires { is_sara_am am.glyph_id ≡ true }
     ensures { result ≡ nikhahit am }
 {
-    let mut unicode_props = am.unicode_props;
-    unicode_props.set_general_category(hb_unicode_general_category_t::Mn);
-    unicode_props.set_continuation(true);
-    hb_glyph_info_t {
-        glyph_id: am.glyph_id + (0x0E4D - 0x0E33),
-        unicode_props,
-        ..am
-    }
+    let mut nikhahit = am;
+    nikhahit.glyph_id += 0x0E4D - 0x0E33;
+    nikhahit
+        .unicode_props
+        .set_general_category(hb_unicode_general_category_t::Mn);
+    nikhahit.unicode_props.set_continuation(true);
+    nikhahit
 }
 
 // The SARA AA of a SARA AM.
@@ -52,10 +51,9 @@ fn sara_aa_from_sara_am(am: hb_glyph_info_t) -> hb_glyph_info_t
     requires { is_sara_am am.glyph_id ≡ true }
     ensures { result ≡ sara_aa am }
 {
-    hb_glyph_info_t {
-        glyph_id: am.glyph_id - 1,
-        ..am
-    }
+    let mut sara_aa = am;
+    sara_aa.glyph_id -= 1;
+    sara_aa
 }
 
 // How many SARA AM the text has.
@@ -93,48 +91,94 @@ fn count_marks_before(glyphs: &[hb_glyph_info_t], place: usize) -> usize
         .count()
 }
 
+// How many glyphs stand before the first SARA AM.
+fn count_before_sara_am(glyphs: &[hb_glyph_info_t]) -> usize
+    ensures count { result ≡ prefix_len (λ g. not (is_sara_am g.glyph_id)) glyphs.now }
+    ensures few { result ≤ length glyphs.now }
+{
+    glyphs
+        .iter()
+        .take_while(|glyph| !is_sara_am(glyph.glyph_id))
+        .count()
+}
+
+// How many glyphs stand behind the last SARA AM.
+fn count_behind_sara_am(glyphs: &[hb_glyph_info_t]) -> usize
+    ensures count { result ≡ suffix_len (λ g. not (is_sara_am g.glyph_id)) glyphs.now }
+    ensures few { result ≤ length glyphs.now }
+{
+    glyphs
+        .iter()
+        .rev()
+        .take_while(|glyph| !is_sara_am(glyph.glyph_id))
+        .count()
+}
+
 // Merges what a SARA AM at `place` merges, its marks or, without any, the glyph before it, in the
 // glyphs with a range in its cluster. Returns the range that is to be written then.
 fn merge_sara_am(
     level: BufferClusterLevel,
     glyphs: &mut [hb_glyph_info_t],
-    run: ClusterRange,
+    pending: ClusterRange,
     place: usize,
 ) -> ClusterRange
     requires in_range { place < length glyphs.old }
     requires room { place + 1 < 2 ^ 64 }
-    requires fits { RangeFits run glyphs.old }
+    requires fits { RangeFits pending glyphs.old }
     ensures merged { let stretches =
         stretch_of_sara_am level place (above_marks_before glyphs.old place) in
-        with_range result glyphs.new ≡ merge_all level stretches (with_range run glyphs.old) }
+        with_range result glyphs.new ≡ merge_all level stretches (with_range pending glyphs.old) }
     ensures fits { RangeFits result glyphs.new }
 {
     let above = count_marks_before(glyphs, place);
     if above > 0 {
-        return merge_range_in(level, glyphs, run, place - above, place + 1);
+        return merge_range_in(level, glyphs, pending, place - above, place + 1);
     }
     match level {
         BufferClusterLevel::MonotoneGraphemes if place > 0 => {
-            merge_range_in(level, glyphs, run, place - 1, place + 1)
+            merge_range_in(level, glyphs, pending, place - 1, place + 1)
         }
         BufferClusterLevel::MonotoneGraphemes
         | BufferClusterLevel::MonotoneCharacters
-        | BufferClusterLevel::Characters => run,
+        | BufferClusterLevel::Characters => pending,
     }
 }
 
-// Merges what each SARA AM of the first `len` glyphs merges, from the left.
-fn merge_all_sara_am(level: BufferClusterLevel, glyphs: &mut [hb_glyph_info_t], len: usize)
-    requires { len ≤ length glyphs.old }
+// Where the first SARA AM of a text stands, which has so many of them, and the last right before
+// `end`. The only one is the last.
+fn find_first(text: &[hb_glyph_info_t], count: usize, end: usize) -> usize
+    requires counted { count ≡ count_by (λ g. is_sara_am g.glyph_id) text.now }
+    requires end { end ≡ length text.now - suffix_len (λ g. not (is_sara_am g.glyph_id)) text.now }
+    ensures within { result ≤ end }
+    ensures none { list_any (λ g. is_sara_am g.glyph_id) (take result text.now) ≡ false }
+{
+    if count == 1 {
+        end - 1
+    } else {
+        count_before_sara_am(&text[..end])
+    }
+}
+
+// Merges what each SARA AM of the first `len` glyphs merges, from the left. There is none before
+// the place `first`.
+fn merge_all_sara_am(
+    level: BufferClusterLevel,
+    glyphs: &mut [hb_glyph_info_t],
+    first: usize,
+    len: usize,
+)
+    requires in_order { first ≤ len }
+    requires in_range { len ≤ length glyphs.old }
+    requires none { list_any (λ g. is_sara_am g.glyph_id) (take first glyphs.old) ≡ false }
     ensures { glyphs.new ≡ merged_front level len glyphs.old }
 {
-    let mut run = ClusterRange::NONE;
-    for i in 0..len {
+    let mut pending = ClusterRange::NONE;
+    for i in first..len {
         if is_sara_am(glyphs[i].glyph_id) {
-            run = merge_sara_am(level, glyphs, run, i);
+            pending = merge_sara_am(level, glyphs, pending, i);
         }
     }
-    write_range_in(glyphs, run);
+    write_range_in(glyphs, pending);
 }
 
 // What is still to be written: what the text before `end` becomes, over the places before `place`.
@@ -200,14 +244,20 @@ fn write_in_two(glyphs: &mut [hb_glyph_info_t], len: usize)
 }
 
 // Merges each SARA AM of a text with its marks, and writes it in two: the text is the first `len` of
-// these glyphs, and the others are the room that it grows into.
+// these glyphs, and the others are the room that it grows into. What stands behind the last SARA AM
+// moves as a whole.
 #[inline]
 fn rewrite_in_room(level: BufferClusterLevel, glyphs: &mut [hb_glyph_info_t], len: usize)
     requires { HasRoomForSaraAms len glyphs.old }
     ensures { glyphs.new ≡ glyphs_in_two (take len (merged_front level len glyphs.old)) }
 {
-    merge_all_sara_am(level, glyphs, len);
-    write_in_two(glyphs, len);
+    let end = len - count_behind_sara_am(&glyphs[..len]);
+    let count = glyphs.len() - len;
+    let first = find_first(&glyphs[..len], count, end);
+    merge_all_sara_am(level, glyphs, first, end);
+    let place = end + count;
+    glyphs.copy_within(end..len, place);
+    write_in_two(&mut glyphs[..place], end);
 }
 
 /// Puts each SARA AM in two: NIKHAHIT, before the above-base marks that stand before it, and SARA
@@ -234,7 +284,8 @@ pub fn rewrite_sara_am(buffer: &mut hb_buffer_t) -> Result<(), ShaperError>
     rewrite_counted(buffer, count)
 }
 
-// The same of a text with so many SARA AM. (A text without any has a short way past this.)
+// Puts each SARA AM in two in a text that has so many of them. A call of its own, so that a text
+// without any doesn't pay for its frame.
 #[inline(never)]
 fn rewrite_counted(buffer: &mut hb_buffer_t, count: usize) -> Result<(), ShaperError>
     requires without_positions { buffer.old.positions ≡ [] }

@@ -52,6 +52,7 @@ const THAI: Script = Script(*b"Thai");
 /// - `ClustersInTwo`, `FlagsInTwo`, `KeptInTwo`: `crates/shapers_text/specs/ThaiLaws.antt`
 ///
 /// </details>
+#[inline]
 pub fn preprocess_text<F: Font>(
     plan: &Plan,
     face: &F,

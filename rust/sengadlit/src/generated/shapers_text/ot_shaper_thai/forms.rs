@@ -320,6 +320,7 @@ impl<'a, F: Font> GlyphWalk for PuaShaping<'a, F> {
 /// - `marks_flagged`, `pua_shaped`: `crates/shapers_text/specs/ThaiForms.antt`
 ///
 /// </details>
+#[inline(never)]
 pub fn do_pua_shaping<F: Font>(breaks: BreakFlags, font: &F, buffer: &mut Buffer) {
     buffer.walk_outside(&mut PuaShaping { breaks, font });
 }

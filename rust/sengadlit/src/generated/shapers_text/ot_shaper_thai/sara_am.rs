@@ -24,22 +24,20 @@ fn is_above_base_mark(u: u32) -> bool {
 
 // The NIKHAHIT of a SARA AM: a mark that its cluster's first glyph carries on.
 fn nikhahit_from_sara_am(am: GlyphInfo) -> GlyphInfo {
-    let mut unicode_props = am.unicode_props;
-    unicode_props.set_general_category(GeneralCategory::Mn);
-    unicode_props.set_continuation(true);
-    GlyphInfo {
-        glyph_id: am.glyph_id + (0x0E4D - 0x0E33),
-        unicode_props,
-        ..am
-    }
+    let mut nikhahit = am;
+    nikhahit.glyph_id += 0x0E4D - 0x0E33;
+    nikhahit
+        .unicode_props
+        .set_general_category(GeneralCategory::Mn);
+    nikhahit.unicode_props.set_continuation(true);
+    nikhahit
 }
 
 // The SARA AA of a SARA AM.
 fn sara_aa_from_sara_am(am: GlyphInfo) -> GlyphInfo {
-    GlyphInfo {
-        glyph_id: am.glyph_id - 1,
-        ..am
-    }
+    let mut sara_aa = am;
+    sara_aa.glyph_id -= 1;
+    sara_aa
 }
 
 // How many SARA AM the text has.
@@ -69,37 +67,70 @@ fn count_marks_before(glyphs: &[GlyphInfo], place: usize) -> usize {
         .count()
 }
 
+// How many glyphs stand before the first SARA AM.
+fn count_before_sara_am(glyphs: &[GlyphInfo]) -> usize {
+    glyphs
+        .iter()
+        .take_while(|glyph| !is_sara_am(glyph.glyph_id))
+        .count()
+}
+
+// How many glyphs stand behind the last SARA AM.
+fn count_behind_sara_am(glyphs: &[GlyphInfo]) -> usize {
+    glyphs
+        .iter()
+        .rev()
+        .take_while(|glyph| !is_sara_am(glyph.glyph_id))
+        .count()
+}
+
 // Merges what a SARA AM at `place` merges, its marks or, without any, the glyph before it, in the
 // glyphs with a range in its cluster. Returns the range that is to be written then.
 fn merge_sara_am(
     level: BufferClusterLevel,
     glyphs: &mut [GlyphInfo],
-    run: ClusterRange,
+    pending: ClusterRange,
     place: usize,
 ) -> ClusterRange {
     let above = count_marks_before(glyphs, place);
     if above > 0 {
-        return merge_range_in(level, glyphs, run, place - above, place + 1);
+        return merge_range_in(level, glyphs, pending, place - above, place + 1);
     }
     match level {
         BufferClusterLevel::MonotoneGraphemes if place > 0 => {
-            merge_range_in(level, glyphs, run, place - 1, place + 1)
+            merge_range_in(level, glyphs, pending, place - 1, place + 1)
         }
         BufferClusterLevel::MonotoneGraphemes
         | BufferClusterLevel::MonotoneCharacters
-        | BufferClusterLevel::Characters => run,
+        | BufferClusterLevel::Characters => pending,
     }
 }
 
-// Merges what each SARA AM of the first `len` glyphs merges, from the left.
-fn merge_all_sara_am(level: BufferClusterLevel, glyphs: &mut [GlyphInfo], len: usize) {
-    let mut run = ClusterRange::NONE;
-    for i in 0..len {
+// Where the first SARA AM of a text stands, which has so many of them, and the last right before
+// `end`. The only one is the last.
+fn find_first(text: &[GlyphInfo], count: usize, end: usize) -> usize {
+    if count == 1 {
+        end - 1
+    } else {
+        count_before_sara_am(&text[..end])
+    }
+}
+
+// Merges what each SARA AM of the first `len` glyphs merges, from the left. There is none before
+// the place `first`.
+fn merge_all_sara_am(
+    level: BufferClusterLevel,
+    glyphs: &mut [GlyphInfo],
+    first: usize,
+    len: usize,
+) {
+    let mut pending = ClusterRange::NONE;
+    for i in first..len {
         if is_sara_am(glyphs[i].glyph_id) {
-            run = merge_sara_am(level, glyphs, run, i);
+            pending = merge_sara_am(level, glyphs, pending, i);
         }
     }
-    write_range_in(glyphs, run);
+    write_range_in(glyphs, pending);
 }
 
 // What is still to be written: what the text before `end` becomes, over the places before `place`.
@@ -148,11 +179,17 @@ fn write_in_two(glyphs: &mut [GlyphInfo], len: usize) {
 }
 
 // Merges each SARA AM of a text with its marks, and writes it in two: the text is the first `len` of
-// these glyphs, and the others are the room that it grows into.
+// these glyphs, and the others are the room that it grows into. What stands behind the last SARA AM
+// moves as a whole.
 #[inline]
 fn rewrite_in_room(level: BufferClusterLevel, glyphs: &mut [GlyphInfo], len: usize) {
-    merge_all_sara_am(level, glyphs, len);
-    write_in_two(glyphs, len);
+    let end = len - count_behind_sara_am(&glyphs[..len]);
+    let count = glyphs.len() - len;
+    let first = find_first(&glyphs[..len], count, end);
+    merge_all_sara_am(level, glyphs, first, end);
+    let place = end + count;
+    glyphs.copy_within(end..len, place);
+    write_in_two(&mut glyphs[..place], end);
 }
 
 /// Puts each SARA AM in two: NIKHAHIT, before the above-base marks that stand before it, and SARA
@@ -193,7 +230,8 @@ pub fn rewrite_sara_am(buffer: &mut Buffer) -> Result<(), ShaperError> {
     rewrite_counted(buffer, count)
 }
 
-// The same of a text with so many SARA AM. (A text without any has a short way past this.)
+// Puts each SARA AM in two in a text that has so many of them. A call of its own, so that a text
+// without any doesn't pay for its frame.
 #[inline(never)]
 fn rewrite_counted(buffer: &mut Buffer, count: usize) -> Result<(), ShaperError> {
     let len = buffer.len();
