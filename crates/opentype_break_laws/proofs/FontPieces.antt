@@ -32,6 +32,8 @@ use Rattle.opentype_font.specs.Proved.LookupLaws.{substituting_keeps}
 use Rattle.opentype_break_laws.specs.FontPieces.{AtLookups, BeginsNowhere, EachAt, FontLookupsLeavePieces, FontRunsLeavePieces, FontTextsBreak, OneForOneGoesByPieces, PutsOneForOne, GoesByPieces}
 use Rattle.opentype_break_laws.proofs.LigatureModel.{all_back, all_drop, all_front, all_take}
 use Rattle.opentype_break_laws.proofs.LigaturePieces.{ligatures_leave}
+use Rattle.opentype_break_laws.proofs.LigatureNumbers.{by_presence, uncompared}
+use Rattle.opentype_break_laws.proofs.LigatureViews.{with_presence, hiding_number}
 use Rattle.opentype_break_laws.proofs.SequencePieces.{sequences_leave}
 use Rattle.opentype_break_laws.proofs.ByGlyph.{changed, found_by, put_if, substituted_each, value_by}
 
@@ -214,7 +216,12 @@ lookups_leave numbered text gdef gsub lookup b goes = elim goes [
   | inr other ↦ elim other [
     | inl begins ↦ unbegun_leaves numbered text gdef gsub lookup b begins
     | inr more ↦ elim more [
-      | inl ligates ↦ ligatures_leave numbered ligates.uncompared text gdef gsub lookup b ligates.puts ligates.takes
+      | inl ligates ↦ elim ligates.compared [
+        | inl none ↦ ligatures_leave numbered hiding_number (uncompared numbered none) text gdef gsub lookup b ligates.puts
+            ligates.takes
+        | inr presence ↦ ligatures_leave numbered with_presence (by_presence numbered presence) text gdef gsub lookup b
+            ligates.puts ligates.takes
+      ]
       | inr spreads ↦ sequences_leave numbered spreads.compared text gdef gsub lookup b spreads.puts spreads.takes
     ]
   ]

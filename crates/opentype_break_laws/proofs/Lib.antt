@@ -6,6 +6,7 @@ pub mod LigatureViews
 pub mod LigatureWalk
 pub mod LigatureBorders
 pub mod LigaturePieces
+pub mod LigatureNumbers
 pub mod SequenceViews
 pub mod SequenceCuts
 pub mod SequencePieces

@@ -259,37 +259,38 @@ clear_of (g ∷ gs) (h ∷ hs) some more border =
 abbrev pub quiet : ℕ → ℕ
 quiet m = m - m / 2 % 2 * 2
 
-abbrev pub quiet_view : Glyph → Glyph
-quiet_view = shown_glyph quiet (λ b. b)
+abbrev pub quiet_view : (ℕ → ℕ) → Glyph → Glyph
+quiet_view lig = shown_glyph quiet (λ b. b) lig
 
-unsafe_shown : (g : Glyph) → is_unsafe (quiet_view g) ≡ is_unsafe g
-unsafe_shown g =
+unsafe_shown : (lig : ℕ → ℕ) (g : Glyph) → is_unsafe (quiet_view lig g) ≡ is_unsafe g
+unsafe_shown lig g =
     let low : bit_at 0 (quiet g.mask) ≡ bit_at 0 g.mask = omega arith in
     let high : bit_at 2 (quiet g.mask) ≡ bit_at 2 g.mask = omega arith in
     ap (λ n. (n == 1) || (bit_at 2 (quiet g.mask) == 1)) low ∙ ap (λ n. (bit_at 0 g.mask == 1) || (n == 1)) high
 
-any_seen : (c : ℕ) (gs : Glyphs) → list_any (λ g. g.cluster == c && is_unsafe g) (map quiet_view gs)
+any_seen : (lig : ℕ → ℕ) (c : ℕ) (gs : Glyphs) → list_any (λ g. g.cluster == c && is_unsafe g) (map (quiet_view lig) gs)
     ≡ list_any (λ g. g.cluster == c && is_unsafe g) gs
-any_seen c [] = refl
-any_seen c (g ∷ gs) = ap (λ b. (g.cluster == c && b) || list_any (λ x. x.cluster == c && is_unsafe x) (map quiet_view gs)) (unsafe_shown g)
-    ∙ ap (λ b. (g.cluster == c && is_unsafe g) || b) (any_seen c gs)
+any_seen lig c [] = refl
+any_seen lig c (g ∷ gs) = ap (λ b. (g.cluster == c && b)
+    || list_any (λ x. x.cluster == c && is_unsafe x) (map (quiet_view lig) gs)) (unsafe_shown lig g)
+    ∙ ap (λ b. (g.cluster == c && is_unsafe g) || b) (any_seen lig c gs)
 
-clusters_seen : (mask byte : ℕ → ℕ) (gs : Glyphs) → clusters (map (shown_glyph mask byte) gs) ≡ clusters gs
-clusters_seen mask byte [] = refl
-clusters_seen mask byte (g ∷ gs) = ap (λ l. g.cluster ∷ l) (clusters_seen mask byte gs)
+clusters_seen : (mask byte lig : ℕ → ℕ) (gs : Glyphs) → clusters (map (shown_glyph mask byte lig) gs) ≡ clusters gs
+clusters_seen mask byte lig [] = refl
+clusters_seen mask byte lig (g ∷ gs) = ap (λ l. g.cluster ∷ l) (clusters_seen mask byte lig gs)
 
-pub clusters_shown : (mask byte : ℕ → ℕ) (gs hs : Glyphs) → AlikeTo (shown_glyph mask byte) gs hs → clusters gs ≡ clusters hs
-clusters_shown mask byte gs hs e = sym (clusters_seen mask byte gs) ∙ ap clusters e ∙ clusters_seen mask byte hs
+pub clusters_shown : (mask byte lig : ℕ → ℕ) (gs hs : Glyphs) → AlikeTo (shown_glyph mask byte lig) gs hs → clusters gs ≡ clusters hs
+clusters_shown mask byte lig gs hs e = sym (clusters_seen mask byte lig gs) ∙ ap clusters e ∙ clusters_seen mask byte lig hs
 
-pub clear_shown : (gs hs : Glyphs) (p : ℕ) → AlikeTo quiet_view gs hs → IsClear gs p → IsClear hs p
-clear_shown gs hs p e clear =
-    let cs = clusters_shown quiet (λ b. b) gs hs e in
+pub clear_shown : (lig : ℕ → ℕ) (gs hs : Glyphs) (p : ℕ) → AlikeTo (quiet_view lig) gs hs → IsClear gs p → IsClear hs p
+clear_shown lig gs hs p e clear =
+    let cs = clusters_shown quiet (λ b. b) lig gs hs e in
     let most : greater gs p ≡ greater hs p = ap (λ (l : List ℕ). max (slice_index l (p - 1)) (slice_index l p)) cs in
     record {
       differ = subst (λ (l : List ℕ). slice_index l (p - 1) ≢ slice_index l p) cs clear.differ;
-      unflagged = sym (any_seen (greater hs p) hs)
+      unflagged = sym (any_seen lig (greater hs p) hs)
           ∙ ap (λ l. list_any (λ g. g.cluster == greater hs p && is_unsafe g) l) (sym e)
-          ∙ any_seen (greater hs p) gs
+          ∙ any_seen lig (greater hs p) gs
           ∙ subst (λ c. list_any (λ g. g.cluster == c && is_unsafe g) gs ≡ false) most clear.unflagged;
     }
 

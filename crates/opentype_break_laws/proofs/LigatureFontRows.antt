@@ -31,7 +31,9 @@ use Rattle.opentype_font.specs.Lookups.{substituted_by}
 use Rattle.shapers_plan.specs.declared.ot_map.lookups.StageLookup.{StageLookup}
 use Rattle.shapers_editing.specs.PipelineBreaks.{AreAsIn, IsPiece, LookupLeaves, Numbering, unlinked}
 use Rattle.opentype_break_laws.specs.OrderedTexts.{PrecedesInOrder, PutsLigatures, TakesLigatures}
+use Rattle.opentype_break_laws.proofs.LigatureNumbers.{uncompared}
 use Rattle.opentype_break_laws.proofs.LigaturePieces.{ligatures_leave}
+use Rattle.opentype_break_laws.proofs.LigatureViews.{hiding_number}
 
 -- GSUB with one lookup of type 4 and this flag: glyph 3 for a 1 and a 2
 abbrev ligating : ℕ → List ℕ
@@ -130,7 +132,7 @@ takes_two = record {
 
 row_two : (numbered : Numbering) → ((xs ys : List LigProps) → numbered xs ys ≡ true)
     → LookupLeaves numbered rising (substituted_by [] (ligating 0)) lookup rising
-row_two numbered any = ligatures_leave numbered any rising [] (ligating 0) lookup rising puts_two takes_two
+row_two numbered any = ligatures_leave numbered hiding_number (uncompared numbered any) rising [] (ligating 0) lookup rising puts_two takes_two
 
 -- ---- A FLAG THAT DOESN'T BEGIN WITH ITS CLUSTER, of the 2 alone: the 2 goes, and so does the flag
 abbrev follower : Glyphs

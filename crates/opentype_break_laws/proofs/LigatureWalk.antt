@@ -31,7 +31,7 @@ use Rattle.opentype_break_laws.proofs.ByGlyph.{first_mapped, next_step, no_step,
 use Rattle.opentype_break_laws.proofs.LigatureFits.{HasInFront, Climbs, EndsWith, FittingLigature, IsPartOf, LooksAnywhere, essence, ligature_fit, fit_climbs, fit_in, fit_kept, fit_moved, places_behind, moved_fit, none_fits}
 use Rattle.opentype_break_laws.proofs.LigatureModel.{Emitted, all_back, all_front, all_weaker, IsFitting, climbs_last, emit, emit_by, emit_parts, emit_short, emit_stays, stretch_joined, last_of, marks_long, stretch_merged, model, number_of, top_of}
 use Rattle.opentype_break_laws.proofs.LigatureSteps.{climbs_within, last_place_moved, ligated_behind, read_among, remove_long}
-use Rattle.opentype_break_laws.proofs.LigatureViews.{AlikeTo, BothNumbered, IsViewOf, alike_long, all_in_seen, at_same, component_seen, essence_same, flood_seen, joined_alike, put_same, shown_glyph, set_same}
+use Rattle.opentype_break_laws.proofs.LigatureViews.{AlikeTo, BothNumbered, IsViewOf, ShowsNumbers, alike_long, all_in_seen, at_same, component_seen, essence_same, flood_seen, joined_alike, put_same, shown_glyph, set_same}
 
 -- ---- WHAT FITS, if the lookup sees the first glyph
 
@@ -174,10 +174,10 @@ pub seen_same : (gdef : List ℕ) (use_of : LookupUse) (table : List ℕ)
 seen_same gdef use_of table flagless g h e = sym (seen_essence gdef use_of table flagless g)
     ∙ ap (is_seen gdef use_of table) e ∙ seen_essence gdef use_of table flagless h
 
-component_alike : (mask byte : ℕ → ℕ) (g h : Glyph) → shown_glyph mask byte g ≡ shown_glyph mask byte h
+component_alike : (mask byte lig : ℕ → ℕ) → ShowsNumbers lig → (g h : Glyph) → shown_glyph mask byte lig g ≡ shown_glyph mask byte lig h
     → component g.lig_props ≡ component h.lig_props
-component_alike mask byte g h e = sym (component_seen g.lig_props.0)
-    ∙ ap (λ (x : Glyph). component x.lig_props) e ∙ component_seen h.lig_props.0
+component_alike mask byte lig shows g h e = sym (component_seen lig shows g.lig_props.0)
+    ∙ ap (λ (x : Glyph). component x.lig_props) e ∙ component_seen lig shows h.lig_props.0
 
 free_at : (gs : Glyphs) (i : ℕ) → HasNoComponents gs → component (glyph_at gs i).lig_props ≡ 0
 free_at [] i all = refl
@@ -185,21 +185,21 @@ free_at (g ∷ gs) zero all = all.0
 free_at (g ∷ gs) (suc i) all = free_at gs i all.1
 
 -- a text that ends as a view shows
-ends_with : (mask byte : ℕ → ℕ) → IsViewOf mask byte → (text out rest : Glyphs)
-    → AlikeTo (shown_glyph mask byte) text (out ++ rest) → HasNoComponents rest → EndsWith text rest (length out)
-ends_with mask byte shows text out rest e none =
-    let v : Glyph → Glyph = shown_glyph mask byte in
+ends_with : (mask byte lig : ℕ → ℕ) → IsViewOf mask byte lig → (text out rest : Glyphs)
+    → AlikeTo (shown_glyph mask byte lig) text (out ++ rest) → HasNoComponents rest → EndsWith text rest (length out)
+ends_with mask byte lig shows text out rest e none =
+    let v : Glyph → Glyph = shown_glyph mask byte lig in
     let long : length text ≡ length out + length rest = alike_long v text (out ++ rest) e ∙ length-append out rest in
     let same : (i : ℕ) → v (glyph_at rest i) ≡ v (glyph_at text (length out + i)) = λ i.
     sym (at_same v text (out ++ rest) (length out + i) e ∙ ap v (get_or-append-add out rest i default_glyph)) in
     record {
       part = record {
         within = omega (arith, long);
-        alike = λ i lt. essence_same mask byte shows (glyph_at rest i) (glyph_at text (length out + i)) (same i);
+        alike = λ i lt. essence_same mask byte lig shows (glyph_at rest i) (glyph_at text (length out + i)) (same i);
       };
       whole = long;
       here = none;
-      there = λ i. sym (component_alike mask byte (glyph_at rest i) (glyph_at text (length out + i)) (same i)) ∙ free_at rest i none;
+      there = λ i. sym (component_alike mask byte lig shows.numbers (glyph_at rest i) (glyph_at text (length out + i)) (same i)) ∙ free_at rest i none;
     }
 
 -- a text in parts, as a view shows those of another
@@ -238,24 +238,24 @@ number_by true two n = refl
 number_by false true n = refl
 number_by false false n = grind (arith, nat_tests)
 
-of_props : (bit : ℕ) (mask byte : ℕ → ℕ) (g h : Glyph) → shown_glyph mask byte g ≡ shown_glyph mask byte h
+of_props : (bit : ℕ) (mask byte lig : ℕ → ℕ) (g h : Glyph) → shown_glyph mask byte lig g ≡ shown_glyph mask byte lig h
     → has_bit bit g.glyph_props.0 ≡ has_bit bit h.glyph_props.0
-of_props bit mask byte g h e = ap (λ (x : Glyph). has_bit bit x.glyph_props.0) e
+of_props bit mask byte lig g h e = ap (λ (x : Glyph). has_bit bit x.glyph_props.0) e
 
-numbers_alike : (mask byte : ℕ → ℕ) (out t rest u : Glyphs) (ps : List ℕ) → AlikeTo (shown_glyph mask byte) t u → 0 < length t
+numbers_alike : (mask byte lig : ℕ → ℕ) (out t rest u : Glyphs) (ps : List ℕ) → AlikeTo (shown_glyph mask byte lig) t u → 0 < length t
     → Climbs 0 ps (length t)
     → BothNumbered (number_for (out ++ (t ++ rest)) (length out) (places_behind (length out) ps)) (number_of u ps)
 unfolding number_for is_of_marks is_of_base
-numbers_alike mask byte out t rest u ps e some climbs =
+numbers_alike mask byte lig out t rest u ps e some climbs =
     let a = length out in
     let whole : Glyphs = out ++ (t ++ rest) in
-    let v : Glyph → Glyph = shown_glyph mask byte in
+    let v : Glyph → Glyph = shown_glyph mask byte lig in
     let mark : (p : ℕ) → p < length t → is_mark_at whole (a + p) ≡ is_mark_at u p = λ p lt.
     ap (λ (g : Glyph). has_bit 8 g.glyph_props.0) (read_among out t rest p lt)
-    ∙ of_props 8 mask byte (glyph_at t p) (glyph_at u p) (at_same v t u p e) in
+    ∙ of_props 8 mask byte lig (glyph_at t p) (glyph_at u p) (at_same v t u p e) in
     let base : is_base_at whole a ≡ is_base_at u 0 = ap (is_base_at whole) (let z : a ≡ a + 0 = omega arith in z)
     ∙ ap (λ (g : Glyph). has_bit 2 g.glyph_props.0) (read_among out t rest 0 some)
-    ∙ of_props 2 mask byte (glyph_at t 0) (glyph_at u 0) (at_same v t u 0 e) in
+    ∙ of_props 2 mask byte lig (glyph_at t 0) (glyph_at u 0) (at_same v t u 0 e) in
     let first : is_mark_at whole a ≡ is_mark_at u 0 = ap (is_mark_at whole) (let z : a ≡ a + 0 = omega arith in z)
     ∙ mark 0 some in
     let marks : list_all (is_mark_at whole) (places_behind a ps) ≡ list_all (is_mark_at u) ps =
@@ -303,13 +303,13 @@ above_all : (g : Glyph) (gs : Glyphs) → AllByRecursion (PrecedesInOrder g) gs 
 above_all g [] all = tt
 above_all g (h ∷ hs) all = (all.0.0, above_all g hs all.1)
 
-clusters_alike : (mask byte : ℕ → ℕ) (gs hs : Glyphs) → AlikeTo (shown_glyph mask byte) gs hs → clusters gs ≡ clusters hs
-clusters_alike mask byte [] [] e = refl
-clusters_alike mask byte [] (h ∷ hs) e = absurd (omega (arith, ap length e))
-clusters_alike mask byte (g ∷ gs) [] e = absurd (omega (arith, ap length e))
-clusters_alike mask byte (g ∷ gs) (h ∷ hs) e =
+clusters_alike : (mask byte lig : ℕ → ℕ) (gs hs : Glyphs) → AlikeTo (shown_glyph mask byte lig) gs hs → clusters gs ≡ clusters hs
+clusters_alike mask byte lig [] [] e = refl
+clusters_alike mask byte lig [] (h ∷ hs) e = absurd (omega (arith, ap length e))
+clusters_alike mask byte lig (g ∷ gs) [] e = absurd (omega (arith, ap length e))
+clusters_alike mask byte lig (g ∷ gs) (h ∷ hs) e =
     ap (λ c. c ∷ clusters gs) (ap (λ (l : Glyphs). (glyph_at l 0).cluster) e)
-    ∙ ap (λ l. h.cluster ∷ l) (clusters_alike mask byte gs hs (ap (drop 1) e))
+    ∙ ap (λ l. h.cluster ∷ l) (clusters_alike mask byte lig gs hs (ap (drop 1) e))
 
 no_count : (x : ℕ) (xs : List ℕ) → (length (x ∷ xs) == 0) ≡ false
 no_count x xs = grind (arith, nat_tests)
@@ -329,45 +329,45 @@ ligature_change s at gs r to x xs =
     ap (λ b. if b then put_in s.gdef at gs r to else ligature) (no_count x xs)
 
 -- a ligature: of y, front and behind, which the view shows as g, its own front and behind
-ligature_steps : (mask byte : ℕ → ℕ) → IsViewOf mask byte → (s : Setting) (r : LookupRecord) (to p : ℕ) (ps : List ℕ)
+ligature_steps : (mask byte lig : ℕ → ℕ) → IsViewOf mask byte lig → (s : Setting) (r : LookupRecord) (to p : ℕ) (ps : List ℕ)
     (before out : Glyphs) (y g : Glyph) (fore front aft behind : Glyphs) → merges s.level ≡ true
-    → AlikeTo (shown_glyph mask byte) before out → shown_glyph mask byte y ≡ shown_glyph mask byte g
-    → AlikeTo (shown_glyph mask byte) fore front → AlikeTo (shown_glyph mask byte) aft behind → length front ≡ last_of p ps
+    → AlikeTo (shown_glyph mask byte lig) before out → shown_glyph mask byte lig y ≡ shown_glyph mask byte lig g
+    → AlikeTo (shown_glyph mask byte lig) fore front → AlikeTo (shown_glyph mask byte lig) aft behind → length front ≡ last_of p ps
     → Climbs 0 (p ∷ ps) (length (g ∷ front)) → AreOrdered (g ∷ (front ++ behind)) → HasNoComponents aft
-    → HasStepped (shown_glyph mask byte) out (stretch_joined s.gdef (number_of (stretch_merged g front) (p ∷ ps)) (p ∷ ps) to (stretch_merged g front))
+    → HasStepped (shown_glyph mask byte lig) out (stretch_joined s.gdef (number_of (stretch_merged g front) (p ∷ ps)) (p ∷ ps) to (stretch_merged g front))
     (flooded (top_of g front) g.cluster behind)
     (ligature_put s.gdef s.level (length out) (before ++ (y ∷ (fore ++ aft))) r (to, places_behind (length out) (p ∷ ps)))
-ligature_steps mask byte shows s r to p ps before out y g fore front aft behind merging outs first fores afts long climbs order none =
-    let v : Glyph → Glyph = shown_glyph mask byte in
+ligature_steps mask byte lig shows s r to p ps before out y g fore front aft behind merging outs first fores afts long climbs order none =
+    let v : Glyph → Glyph = shown_glyph mask byte lig in
     let a = length out in
     let b_long : length before ≡ a = alike_long v before out outs in
     let f_long : length fore ≡ length front = alike_long v fore front fores in
     let cluster : y.cluster ≡ g.cluster = ap (λ (x : Glyph). x.cluster) first in
     let heads : AlikeTo v (y ∷ fore) (g ∷ front) = ap (λ x. x ∷ map v fore) first ∙ ap (λ l. v g ∷ l) fores in
-    let cs = clusters_alike mask byte (y ∷ fore) (g ∷ front) heads in
+    let cs = clusters_alike mask byte lig (y ∷ fore) (g ∷ front) heads in
     let low : least (clusters (y ∷ fore)) ≡ y.cluster = ap least cs
     ∙ least_first g.cluster (clusters front) (above_all g front (all_front (PrecedesInOrder g) front behind order.0)) ∙ sym cluster in
     let t = stretch_merged y fore in
     let u = stretch_merged g front in
-    let alike : AlikeTo v t u = all_in_seen mask byte shows y.cluster (y ∷ fore) ∙ ap (map (in_cluster y.cluster)) heads
-    ∙ ap (λ c. map (in_cluster c) (map v (g ∷ front))) cluster ∙ sym (all_in_seen mask byte shows g.cluster (g ∷ front)) in
+    let alike : AlikeTo v t u = all_in_seen mask byte lig shows y.cluster (y ∷ fore) ∙ ap (map (in_cluster y.cluster)) heads
+    ∙ ap (λ c. map (in_cluster c) (map v (g ∷ front))) cluster ∙ sym (all_in_seen mask byte lig shows g.cluster (g ∷ front)) in
     let top : top_of y fore ≡ top_of g front = ap (λ n. (glyph_at (y ∷ fore) n).cluster) f_long
     ∙ ap (λ (x : Glyph). x.cluster) (at_same v (y ∷ fore) (g ∷ front) (length front) heads) in
     let left = flooded (top_of y fore) y.cluster aft in
     let right = flooded (top_of g front) g.cluster behind in
-    let rests : AlikeTo v left right = flood_seen mask byte shows (top_of y fore) y.cluster aft
+    let rests : AlikeTo v left right = flood_seen mask byte lig shows (top_of y fore) y.cluster aft
     ∙ ap (λ k. flooded k y.cluster (map v aft)) top ∙ ap (λ c. flooded (top_of g front) c (map v aft)) cluster
-    ∙ ap (flooded (top_of g front) g.cluster) afts ∙ sym (flood_seen mask byte shows (top_of g front) g.cluster behind) in
+    ∙ ap (flooded (top_of g front) g.cluster) afts ∙ sym (flood_seen mask byte lig shows (top_of g front) g.cluster behind) in
     let here : Climbs 0 (p ∷ ps) (length (y ∷ fore)) = subst (λ n. Climbs 0 (p ∷ ps) (suc n)) (sym f_long) climbs in
     let whole : Glyphs = before ++ (t ++ left) in
     let n = number_for whole (length before) (places_behind (length before) (p ∷ ps)) in
     let m = number_of u (p ∷ ps) in
     let t_long : length (y ∷ fore) ≡ length t = sym (length-map (y ∷ fore) (in_cluster y.cluster)) in
-    let both : BothNumbered n m = numbers_alike mask byte before t left u (p ∷ ps) alike (omega (arith, t_long))
+    let both : BothNumbered n m = numbers_alike mask byte lig before t left u (p ∷ ps) alike (omega (arith, t_long))
     (subst (Climbs 0 (p ∷ ps)) t_long here) in
     let made = stretch_joined s.gdef n (p ∷ ps) to t in
     let model_made = stretch_joined s.gdef m (p ∷ ps) to u in
-    let mades : AlikeTo v made model_made = joined_alike mask byte shows s.gdef n m (p ∷ ps) to t u both alike in
+    let mades : AlikeTo v made model_made = joined_alike mask byte lig shows s.gdef n m (p ∷ ps) to t u both alike in
     let put = ligated_behind s.gdef s.level to p ps before y fore aft merging low (f_long ∙ long) here none in
     let text : Glyphs = before ++ (y ∷ (fore ++ aft)) in
     let placed : ligated s.gdef s.level a (places_behind a (p ∷ ps)) to text ≡ before ++ (made ++ left) =
@@ -381,12 +381,12 @@ ligature_steps mask byte shows s r to p ps before out y g fore front aft behind 
       next = omega (arith, last_place_moved a p ps, q_long, short, u_long, long, length-append out model_made);
     })
 
-free_alike : (mask byte : ℕ → ℕ) (gs hs : Glyphs) → AlikeTo (shown_glyph mask byte) gs hs → HasNoComponents hs → HasNoComponents gs
-free_alike mask byte [] hs e none = tt
-free_alike mask byte (g ∷ gs) [] e none = absurd (omega (arith, ap length e))
-free_alike mask byte (g ∷ gs) (h ∷ hs) e none = (
-  component_alike mask byte g h (ap (λ l. glyph_at l 0) e) ∙ none.0,
-  free_alike mask byte gs hs (ap (drop 1) e) none.1,
+free_alike : (mask byte lig : ℕ → ℕ) → ShowsNumbers lig → (gs hs : Glyphs) → AlikeTo (shown_glyph mask byte lig) gs hs → HasNoComponents hs → HasNoComponents gs
+free_alike mask byte lig shows [] hs e none = tt
+free_alike mask byte lig shows (g ∷ gs) [] e none = absurd (omega (arith, ap length e))
+free_alike mask byte lig shows (g ∷ gs) (h ∷ hs) e none = (
+  component_alike mask byte lig shows g h (ap (λ l. glyph_at l 0) e) ∙ none.0,
+  free_alike mask byte lig shows gs hs (ap (drop 1) e) none.1,
 )
 
 -- how a lookup is tried shows in no view of these
@@ -413,18 +413,18 @@ stays_stepped v text out g gs r e = record {
   next = omega (arith, length-append out (g ∷ []));
 }
 
-single_stepped : (mask byte : ℕ → ℕ) → IsViewOf mask byte → (gdef : List ℕ) (to : ℕ) (text out : Glyphs) (g : Glyph) (gs : Glyphs)
-    (r : LookupRecord) → AlikeTo (shown_glyph mask byte) text (out ++ (g ∷ gs))
-    → HasStepped (shown_glyph mask byte) out (replaced gdef to 0 g ∷ []) gs (put_in gdef (length out) text r to)
-single_stepped mask byte shows gdef to text out g gs r e =
-    let v : Glyph → Glyph = shown_glyph mask byte in
+single_stepped : (mask byte lig : ℕ → ℕ) → IsViewOf mask byte lig → (gdef : List ℕ) (to : ℕ) (text out : Glyphs) (g : Glyph) (gs : Glyphs)
+    (r : LookupRecord) → AlikeTo (shown_glyph mask byte lig) text (out ++ (g ∷ gs))
+    → HasStepped (shown_glyph mask byte lig) out (replaced gdef to 0 g ∷ []) gs (put_in gdef (length out) text r to)
+single_stepped mask byte lig shows gdef to text out g gs r e =
+    let v : Glyph → Glyph = shown_glyph mask byte lig in
     let a = length out in
     let here : v (glyph_at text a) ≡ v g = at_same v text (out ++ (g ∷ gs)) a e
     ∙ ap v (get_or-append_seam out g gs default_glyph) in
     let x = replaced gdef to 0 (glyph_at text a) in
     let y = replaced gdef to 0 g in
     record {
-      text = set_same v text (out ++ (g ∷ gs)) a x y e (put_same mask byte shows gdef to 0 (glyph_at text a) g here)
+      text = set_same v text (out ++ (g ∷ gs)) a x y e (put_same mask byte lig shows gdef to 0 (glyph_at text a) g here)
           ∙ ap (map v) (set-append_seam out g gs y) ∙ sym (ap (map v) (append_assoc out (y ∷ []) gs));
       next = omega (arith, length-append out (y ∷ []));
     }
@@ -433,22 +433,22 @@ climbs_short : (at : ℕ) (ps : List ℕ) (end less : ℕ) → AllByRecursion (�
 climbs_short at [] end less all climbs = tt
 climbs_short at (p ∷ ps) end less all climbs = (climbs.0, (all.0, climbs_short p ps end less all.1 climbs.1.1))
 
-stepped_by : (mask byte : ℕ → ℕ) → IsViewOf mask byte → (s : Setting) (r : LookupRecord) (to p : ℕ) (ps : List ℕ)
+stepped_by : (mask byte lig : ℕ → ℕ) → IsViewOf mask byte lig → (s : Setting) (r : LookupRecord) (to p : ℕ) (ps : List ℕ)
     (text before out back : Glyphs) (g : Glyph) (gs front behind : Glyphs) → merges s.level ≡ true → text ≡ before ++ back
-    → AlikeTo (shown_glyph mask byte) before out → AlikeTo (shown_glyph mask byte) back (g ∷ gs) → gs ≡ front ++ behind
+    → AlikeTo (shown_glyph mask byte lig) before out → AlikeTo (shown_glyph mask byte lig) back (g ∷ gs) → gs ≡ front ++ behind
     → length front ≡ last_of p ps → Climbs 0 (p ∷ ps) (length (g ∷ front)) → AreOrdered (g ∷ gs) → HasNoComponents (g ∷ gs)
-    → (let it = emit_by s.gdef to (p ∷ ps) g gs in HasStepped (shown_glyph mask byte) out it.made it.rest
+    → (let it = emit_by s.gdef to (p ∷ ps) g gs in HasStepped (shown_glyph mask byte lig) out it.made it.rest
     (ligature_put s.gdef s.level (length out) text r (to, places_behind (length out) (p ∷ ps))))
-stepped_by mask byte shows s r to p ps text before out [] g gs front behind merging parts outs backs whole long climbs order none =
+stepped_by mask byte lig shows s r to p ps text before out [] g gs front behind merging parts outs backs whole long climbs order none =
     absurd (omega (arith, ap length backs))
-stepped_by mask byte shows s r to p ps text before out (y ∷ ys) g gs front behind merging parts outs backs whole long climbs order none =
-    let v : Glyph → Glyph = shown_glyph mask byte in
+stepped_by mask byte lig shows s r to p ps text before out (y ∷ ys) g gs front behind merging parts outs backs whole long climbs order none =
+    let v : Glyph → Glyph = shown_glyph mask byte lig in
     let first : v y ≡ v g = ap (λ l. glyph_at l 0) backs in
     let inner = seen_in_parts v ys front behind (ap (drop 1) backs ∙ ap (map v) whole) in
     let split : text ≡ before ++ (y ∷ (inner.front ++ inner.back)) = parts ∙ ap (λ l. before ++ (y ∷ l)) inner.parts in
-    let free = free_alike mask byte inner.back behind inner.second
+    let free = free_alike mask byte lig shows.numbers inner.back behind inner.second
     (all_back (λ x. component x.lig_props ≡ 0) front behind (subst HasNoComponents whole none.1)) in
-    let stepped = ligature_steps mask byte shows s r to p ps before out y g inner.front front inner.back behind merging outs first
+    let stepped = ligature_steps mask byte lig shows s r to p ps before out y g inner.front front inner.back behind merging outs first
     inner.first inner.second long climbs (subst (λ l. AreOrdered (g ∷ l)) whole order) free in
     let emitted : emit_by s.gdef to (p ∷ ps) g gs ≡ record {
       made = stretch_joined s.gdef (number_of (stretch_merged g front) (p ∷ ps)) (p ∷ ps) to (stretch_merged g front);
@@ -460,13 +460,13 @@ stepped_by mask byte shows s r to p ps text before out (y ∷ ys) g gs front beh
     (flooded (top_of g front) g.cluster behind) (put x)) (sym split) stepped)
 
 -- a text's parts: what was put out, and the first glyph, and so many, and the rest
-ligature_stepped : (mask byte : ℕ → ℕ) → IsViewOf mask byte → (s : Setting) (r : LookupRecord) (to p : ℕ) (ps : List ℕ)
-    (text out : Glyphs) (g : Glyph) (gs : Glyphs) → merges s.level ≡ true → AlikeTo (shown_glyph mask byte) text (out ++ (g ∷ gs))
+ligature_stepped : (mask byte lig : ℕ → ℕ) → IsViewOf mask byte lig → (s : Setting) (r : LookupRecord) (to p : ℕ) (ps : List ℕ)
+    (text out : Glyphs) (g : Glyph) (gs : Glyphs) → merges s.level ≡ true → AlikeTo (shown_glyph mask byte lig) text (out ++ (g ∷ gs))
     → Climbs 0 (p ∷ ps) (length (g ∷ gs)) → AreOrdered (g ∷ gs) → HasNoComponents (g ∷ gs)
-    → (let it = emit_by s.gdef to (p ∷ ps) g gs in HasStepped (shown_glyph mask byte) out it.made it.rest
+    → (let it = emit_by s.gdef to (p ∷ ps) g gs in HasStepped (shown_glyph mask byte lig) out it.made it.rest
     (ligature_put s.gdef s.level (length out) text r (to, places_behind (length out) (p ∷ ps))))
-ligature_stepped mask byte shows s r to p ps text out g gs merging e climbs order none =
-    let v : Glyph → Glyph = shown_glyph mask byte in
+ligature_stepped mask byte lig shows s r to p ps text out g gs merging e climbs order none =
+    let v : Glyph → Glyph = shown_glyph mask byte lig in
     let q = last_of p ps in
     let last = climbs_last p ps (length (g ∷ gs)) climbs.1.0 climbs.1.1 in
     let front = take q gs in
@@ -474,22 +474,22 @@ ligature_stepped mask byte shows s r to p ps text out g gs merging e climbs orde
     let long : length front ≡ q = length-take-le q gs (omega (arith, last.1.0)) in
     let whole : gs ≡ front ++ behind = sym (take-append-drop q gs) in
     let outer = seen_in_parts v text out (g ∷ gs) e in
-    stepped_by mask byte shows s r to p ps text outer.front out outer.back g gs front behind merging outer.parts outer.first
+    stepped_by mask byte lig shows s r to p ps text outer.front out outer.back g gs front behind merging outer.parts outer.first
     outer.second whole long (climbs_short 0 (p ∷ ps) (length (g ∷ gs)) (length (g ∷ front))
     (all_weaker (λ x. x ≤ q) (λ x. x < length (g ∷ front)) (λ x le. omega (arith, le, long)) (p ∷ ps) (last.0, last.1.1)) climbs)
     order none
 
-fit_stepped : (mask byte : ℕ → ℕ) → IsViewOf mask byte → (s : Setting) (table : List ℕ) (r : LookupRecord) (text out : Glyphs)
-    (g : Glyph) (gs : Glyphs) (o : FittingLigature) → merges s.level ≡ true → AlikeTo (shown_glyph mask byte) text (out ++ (g ∷ gs))
+fit_stepped : (mask byte lig : ℕ → ℕ) → IsViewOf mask byte lig → (s : Setting) (table : List ℕ) (r : LookupRecord) (text out : Glyphs)
+    (g : Glyph) (gs : Glyphs) (o : FittingLigature) → merges s.level ≡ true → AlikeTo (shown_glyph mask byte lig) text (out ++ (g ∷ gs))
     → ((it : ℕ × List ℕ) → o ≡ Some it → Climbs 0 it.1 (length (g ∷ gs))) → AreOrdered (g ∷ gs) → HasNoComponents (g ∷ gs)
-    → (let it = emit s.gdef o g gs in HasStepped (shown_glyph mask byte) out it.made it.rest (went_on (length out)
+    → (let it = emit s.gdef o g gs in HasStepped (shown_glyph mask byte lig) out it.made it.rest (went_on (length out)
     (started (machine_stepped s) text r (option_map (as_put s (length out) text r) (option_map (moved_fit (length out)) o)))))
-fit_stepped mask byte shows s table r text out g gs None merging e climbs order none =
-    stays_stepped (shown_glyph mask byte) text out g gs r e
-fit_stepped mask byte shows s table r text out g gs (Some (to, [])) merging e climbs order none =
-    single_stepped mask byte shows s.gdef to text out g gs r e
-fit_stepped mask byte shows s table r text out g gs (Some (to, p ∷ ps)) merging e climbs order none =
-    ligature_stepped mask byte shows s r to p ps text out g gs merging e (climbs (to, p ∷ ps) refl) order none
+fit_stepped mask byte lig shows s table r text out g gs None merging e climbs order none =
+    stays_stepped (shown_glyph mask byte lig) text out g gs r e
+fit_stepped mask byte lig shows s table r text out g gs (Some (to, [])) merging e climbs order none =
+    single_stepped mask byte lig shows s.gdef to text out g gs r e
+fit_stepped mask byte lig shows s table r text out g gs (Some (to, p ∷ ps)) merging e climbs order none =
+    ligature_stepped mask byte lig shows s r to p ps text out g gs merging e (climbs (to, p ∷ ps) refl) order none
 
 -- ---- ALONG A TEXT
 
@@ -504,23 +504,23 @@ seen_by_model : (s : Setting) (table : List ℕ) (g : Glyph) (gs : Glyphs) (b : 
 seen_by_model s table g gs b e =
     ap (λ x. if x then ligature_fit s.gdef (sight_for s.gdef s.lookup table) table (g ∷ gs) 0 else None) e
 
-step_by : (mask byte : ℕ → ℕ) → IsViewOf mask byte → (s : Setting) (table : List ℕ) → IsLigating s table
-    → TriesUnseen (shown_glyph mask byte) s table → (text out : Glyphs) (g : Glyph) (gs : Glyphs) (r : LookupRecord)
-    → AlikeTo (shown_glyph mask byte) text (out ++ (g ∷ gs)) → AreOrdered (g ∷ gs) → HasNoComponents (g ∷ gs) → (b : Bool)
+step_by : (mask byte lig : ℕ → ℕ) → IsViewOf mask byte lig → (s : Setting) (table : List ℕ) → IsLigating s table
+    → TriesUnseen (shown_glyph mask byte lig) s table → (text out : Glyphs) (g : Glyph) (gs : Glyphs) (r : LookupRecord)
+    → AlikeTo (shown_glyph mask byte lig) text (out ++ (g ∷ gs)) → AreOrdered (g ∷ gs) → HasNoComponents (g ∷ gs) → (b : Bool)
     → is_seen s.gdef s.lookup table g ≡ b
     → is_seen s.gdef s.lookup table (glyph_at text (length out)) ≡ is_seen s.gdef s.lookup table g
     → (let it = emit s.gdef (fits_of s.gdef s.lookup table (g ∷ gs)) g gs in
-    HasStepped (shown_glyph mask byte) out it.made it.rest (lookup_stepped s table text (length out) r))
-step_by mask byte shows s table is tries text out g gs r e order none false at_g same =
-    let v : Glyph → Glyph = shown_glyph mask byte in
+    HasStepped (shown_glyph mask byte lig) out it.made it.rest (lookup_stepped s table text (length out) r))
+step_by mask byte lig shows s table is tries text out g gs r e order none false at_g same =
+    let v : Glyph → Glyph = shown_glyph mask byte lig in
     subst (λ c. HasStepped v out (emit s.gdef (fits_of s.gdef s.lookup table (g ∷ gs)) g gs).made
     (emit s.gdef (fits_of s.gdef s.lookup table (g ∷ gs)) g gs).rest c)
     (sym (unseen_step s table text (length out) r (same ∙ at_g)))
     (subst (λ o. HasStepped v out (emit s.gdef o g gs).made (emit s.gdef o g gs).rest
     (record { text = text; next = length out + 1; lookups = r })) (sym (seen_by_model s table g gs false at_g))
     (stays_stepped v text out g gs r e))
-step_by mask byte shows s table is tries text out g gs r e order none true at_g same =
-    let v : Glyph → Glyph = shown_glyph mask byte in
+step_by mask byte lig shows s table is tries text out g gs r e order none true at_g same =
+    let v : Glyph → Glyph = shown_glyph mask byte lig in
     let a = length out in
     let sight = sight_for s.gdef s.lookup table in
     let looks = looks_anywhere s table is in
@@ -530,53 +530,53 @@ step_by mask byte shows s table is tries text out g gs r e order none true at_g 
     let lt : a < length flagged = omega (arith, alike_long v flagged (out ++ (g ∷ gs)) alike, length-append out (g ∷ gs)) in
     let place : a ≡ a + 0 = omega arith in
     let fitted : ligature_fit s.gdef sight table flagged a ≡ option_map (moved_fit a) o = ap (ligature_fit s.gdef sight table flagged) place
-    ∙ fit_moved s.gdef sight table (g ∷ gs) flagged a 0 looks (ends_with mask byte shows flagged out (g ∷ gs) alike none) (omega arith) in
+    ∙ fit_moved s.gdef sight table (g ∷ gs) flagged a 0 looks (ends_with mask byte lig shows flagged out (g ∷ gs) alike none) (omega arith) in
     let comes = comes_fit s table flagged a r is lt ∙ ap (option_map (as_put s a flagged r)) fitted in
     subst (λ c. HasStepped v out (emit s.gdef (fits_of s.gdef s.lookup table (g ∷ gs)) g gs).made
     (emit s.gdef (fits_of s.gdef s.lookup table (g ∷ gs)) g gs).rest c)
     (sym (seen_step s table text a r (option_map (as_put s a flagged r) (option_map (moved_fit a) o)) (same ∙ at_g) comes))
     (subst (λ x. HasStepped v out (emit s.gdef x g gs).made (emit s.gdef x g gs).rest (went_on a (started (machine_stepped s)
     flagged r (option_map (as_put s a flagged r) (option_map (moved_fit a) o))))) (sym (seen_by_model s table g gs true at_g))
-    (fit_stepped mask byte shows s table r flagged out g gs o is.merging alike
+    (fit_stepped mask byte lig shows s table r flagged out g gs o is.merging alike
     (λ it found. fit_climbs s.gdef sight table (g ∷ gs) 0 it none found) order none))
 
-step_as_model : (mask byte : ℕ → ℕ) → IsViewOf mask byte → (s : Setting) (table : List ℕ) → IsLigating s table
-    → TriesUnseen (shown_glyph mask byte) s table → (text out : Glyphs) (g : Glyph) (gs : Glyphs) (r : LookupRecord)
-    → AlikeTo (shown_glyph mask byte) text (out ++ (g ∷ gs)) → AreOrdered (g ∷ gs) → HasNoComponents (g ∷ gs)
+step_as_model : (mask byte lig : ℕ → ℕ) → IsViewOf mask byte lig → (s : Setting) (table : List ℕ) → IsLigating s table
+    → TriesUnseen (shown_glyph mask byte lig) s table → (text out : Glyphs) (g : Glyph) (gs : Glyphs) (r : LookupRecord)
+    → AlikeTo (shown_glyph mask byte lig) text (out ++ (g ∷ gs)) → AreOrdered (g ∷ gs) → HasNoComponents (g ∷ gs)
     → (let it = emit s.gdef (fits_of s.gdef s.lookup table (g ∷ gs)) g gs in
-    HasStepped (shown_glyph mask byte) out it.made it.rest (lookup_stepped s table text (length out) r))
-step_as_model mask byte shows s table is tries text out g gs r e order none =
-    let v : Glyph → Glyph = shown_glyph mask byte in
+    HasStepped (shown_glyph mask byte lig) out it.made it.rest (lookup_stepped s table text (length out) r))
+step_as_model mask byte lig shows s table is tries text out g gs r e order none =
+    let v : Glyph → Glyph = shown_glyph mask byte lig in
     let a = length out in
     let here : v (glyph_at text a) ≡ v g = at_same v text (out ++ (g ∷ gs)) a e
     ∙ ap v (get_or-append_seam out g gs default_glyph) in
-    let sees = seen_same s.gdef s.lookup table is.flagless (glyph_at text a) g (essence_same mask byte shows (glyph_at text a) g here) in
-    step_by mask byte shows s table is tries text out g gs r e order none (is_seen s.gdef s.lookup table g) refl sees
+    let sees = seen_same s.gdef s.lookup table is.flagless (glyph_at text a) g (essence_same mask byte lig shows (glyph_at text a) g here) in
+    step_by mask byte lig shows s table is tries text out g gs r e order none (is_seen s.gdef s.lookup table g) refl sees
 
-pub walk_as_model : (mask byte : ℕ → ℕ) → IsViewOf mask byte → (s : Setting) (table : List ℕ) → IsLigating s table
-    → TriesUnseen (shown_glyph mask byte) s table → (k : ℕ) (text out gs : Glyphs) (r : LookupRecord)
-    → AlikeTo (shown_glyph mask byte) text (out ++ gs) → length gs ≤ k → AreOrdered gs → HasNoComponents gs
-    → AlikeTo (shown_glyph mask byte) (lookup_applied k (lookup_stepped s table) text (length out) r).text
+pub walk_as_model : (mask byte lig : ℕ → ℕ) → IsViewOf mask byte lig → (s : Setting) (table : List ℕ) → IsLigating s table
+    → TriesUnseen (shown_glyph mask byte lig) s table → (k : ℕ) (text out gs : Glyphs) (r : LookupRecord)
+    → AlikeTo (shown_glyph mask byte lig) text (out ++ gs) → length gs ≤ k → AreOrdered gs → HasNoComponents gs
+    → AlikeTo (shown_glyph mask byte lig) (lookup_applied k (lookup_stepped s table) text (length out) r).text
     (out ++ model s.gdef (fits_of s.gdef s.lookup table) k gs)
-walk_as_model mask byte shows s table is tries zero text out gs r e few order none =
-    ap (λ (x : Along). map (shown_glyph mask byte) x.text) (no_step (lookup_stepped s table) text (length out) r) ∙ e
-walk_as_model mask byte shows s table is tries (suc k) text out [] r e few order none =
-    let v : Glyph → Glyph = shown_glyph mask byte in
+walk_as_model mask byte lig shows s table is tries zero text out gs r e few order none =
+    ap (λ (x : Along). map (shown_glyph mask byte lig) x.text) (no_step (lookup_stepped s table) text (length out) r) ∙ e
+walk_as_model mask byte lig shows s table is tries (suc k) text out [] r e few order none =
+    let v : Glyph → Glyph = shown_glyph mask byte lig in
     let long = alike_long v text (out ++ []) e in
     ap (λ (x : Along). map v x.text) (no_more (lookup_stepped s table) k text (length out) r
     (omega (arith, long, length-append out []))) ∙ e
-walk_as_model mask byte shows s table is tries (suc k) text out (g ∷ gs) r e few order none =
-    let v : Glyph → Glyph = shown_glyph mask byte in
+walk_as_model mask byte lig shows s table is tries (suc k) text out (g ∷ gs) r e few order none =
+    let v : Glyph → Glyph = shown_glyph mask byte lig in
     let fits : Glyphs → FittingLigature = fits_of s.gdef s.lookup table in
     let o = fits (g ∷ gs) in
     let it = emit s.gdef o g gs in
     let step = lookup_stepped s table in
     let c = step text (length out) r in
-    let stepped = step_as_model mask byte shows s table is tries text out g gs r e order none in
+    let stepped = step_as_model mask byte lig shows s table is tries text out g gs r e order none in
     let stays = emit_stays s.gdef fits (fits_are s.gdef s.lookup table (looks_anywhere s table is)) o g gs refl order none in
     let lt : length out < length text = omega (arith, alike_long v text (out ++ (g ∷ gs)) e, length-append out (g ∷ gs)) in
     ap (λ (x : Along). map v x.text) (next_step step k text (length out) r c lt refl)
     ∙ ap (λ n. map v (lookup_applied k step c.text n c.lookups).text) stepped.next
-    ∙ walk_as_model mask byte shows s table is tries k c.text (out ++ it.made) it.rest c.lookups stepped.text
+    ∙ walk_as_model mask byte lig shows s table is tries k c.text (out ++ it.made) it.rest c.lookups stepped.text
     (omega (arith, emit_short s.gdef o g gs, few)) stays.order stays.none
     ∙ ap (map v) (append_assoc out it.made (model s.gdef fits k it.rest))

@@ -12,6 +12,7 @@ use Rattle.shapers_syllabic.specs.Borders.{unnumbered}
 use Rattle.shapers_syllabic.proofs.Serials.{same_text}
 use Rattle.shapers_break_laws.specs.Pieces.{CutWhereClear}
 use Rattle.opentype_face.specs.Firsts.{first_from}
+use Rattle.opentype_face.specs.Lookups.{lookup_in}
 use Rattle.opentype_face.specs.Ranges.{bisect}
 use Rattle.opentype_layout.specs.Sight.{flag_in, ignores, sight_of_context, sight_of_input}
 use Rattle.opentype_gsub.specs.Along.{lookup_applied, lookup_stepped}
@@ -25,7 +26,7 @@ use Rattle.opentype_gsub.specs.Substituted.{applied, substituted}
 use Rattle.opentype_font.specs.Lookups.{substituted_by}
 use Rattle.shapers_plan.specs.declared.ot_map.lookups.StageLookup.{StageLookup}
 use Rattle.shapers_editing.specs.PipelineBreaks.{AreAsIn, IsPiece, LookupLeaves, Numbering, unlinked}
-use Rattle.opentype_break_laws.specs.Sequences.{ComparesNumbers, PutsSequences, TakesSequences}
+use Rattle.opentype_break_laws.specs.Sequences.{ComparesNumbers, PutsSequences, TakesSequences, all_beside, both_numbered, glyphs_of_all, glyphs_of_one}
 use Rattle.opentype_break_laws.proofs.LigatureFontRows.{as_first, first_number}
 use Rattle.opentype_break_laws.proofs.SequencePieces.{sequences_leave}
 
@@ -76,6 +77,36 @@ piece_of numbered alike limit gs part = record {
   room = refl;
   positions = refl;
 }
+
+-- ---- HOW MANY GLYPHS come of one: of a 1, of a 1 without the lookup's bit, and of a 5; and of all
+abbrev three_glyphs : Glyphs
+three_glyphs = glyph 1 0 0 ∷ record (glyph 1 0 0) { mask = 512 } ∷ glyph 5 0 0 ∷ []
+
+of_each : map (glyphs_of_one 256 (lookup_in (sequencing three_four) 0)) three_glyphs ≡ 2 ∷ 1 ∷ 1 ∷ []
+unfolding bisect first_from
+of_each = refl
+
+of_all : glyphs_of_all 256 (lookup_in (sequencing three_four) 0) three_glyphs ≡ 4
+unfolding bisect first_from
+of_all = refl
+
+of_none : map (glyphs_of_one 256 (lookup_in (sequencing empty) 0)) three_glyphs ≡ 0 ∷ 1 ∷ 1 ∷ []
+unfolding bisect first_from
+of_none = refl
+
+-- which numbers of ligatures are told apart: those below 32 are none
+by_presence : map (λ n. both_numbered (record { 0 = n }) (record { 0 = 31 })) (0 ∷ 31 ∷ 32 ∷ 95 ∷ [])
+    ≡ true ∷ true ∷ false ∷ false ∷ []
+by_presence = refl
+
+both_present : map (λ n. both_numbered (record { 0 = n }) (record { 0 = 64 })) (0 ∷ 31 ∷ 32 ∷ 95 ∷ [])
+    ≡ false ∷ false ∷ true ∷ true ∷ []
+both_present = refl
+
+at_each_place : map (all_beside both_numbered (record { 0 = 1 } ∷ record { 0 = 33 } ∷ []))
+    ((record { 0 = 2 } ∷ record { 0 = 64 } ∷ []) ∷ (record { 0 = 2 } ∷ record { 0 = 3 } ∷ []) ∷ (record { 0 = 2 } ∷ []) ∷ [] ∷ [])
+    ≡ true ∷ false ∷ false ∷ false ∷ []
+at_each_place = refl
 
 -- ---- WHAT A PIECE SHOWS of the places in its sequences
 abbrev parts_of : Glyphs → List ℕ

@@ -16,7 +16,7 @@ use Rattle.shapers_plan.specs.declared.ot_map.lookups.Stage.{Stage}
 use Rattle.shapers_plan.specs.declared.ot_map.lookups.StageLookup.{StageLookup}
 use Rattle.opentype_break_laws.specs.OneForOne.{PutOneForOne}
 use Rattle.opentype_break_laws.specs.OrderedTexts.{PutsLigatures, TakesLigatures}
-use Rattle.opentype_break_laws.specs.Sequences.{ComparesNumbers, PutsSequences, TakesSequences}
+use Rattle.opentype_break_laws.specs.Sequences.{ComparesNumbers, ComparesPresence, PutsSequences, TakesSequences}
 
 -- A lookup of a plan puts one glyph for one, by a font's GSUB. Its mask has no glyph flag, as the
 -- masks of features never have.
@@ -32,12 +32,12 @@ pub record BeginsNowhere (gsub : List ℕ) (lookup : StageLookup) (b : Buffer) :
       is_left (use_for lookup) (lookup_in gsub lookup.index) g ≡ true) b.glyphs
 
 -- A lookup puts ligatures into a text that takes them piece by piece, by whoever compares no
--- numbers of ligatures.
+-- numbers of ligatures, or whether there is one and nothing else.
 pub record LigatesPieces (numbered : Numbering) (text : Buffer) (gsub : List ℕ)
     (lookup : StageLookup) (b : Buffer) : Type 0 where
   pub puts : PutsLigatures gsub lookup
   pub takes : TakesLigatures text b
-  pub uncompared : (xs ys : List LigProps) → numbered xs ys ≡ true
+  pub compared : ((xs ys : List LigProps) → numbered xs ys ≡ true) ⊎ ComparesPresence numbered
 
 -- A lookup puts sequences into a text that takes them piece by piece, by whoever compares numbers
 -- of ligatures so that it shows which glyph has one.

@@ -1,5 +1,5 @@
 -- Sequences of a font, each in the place of one glyph, and texts that take them piece by piece.
-use Rattle.std.specs.Prelude.{ℕ, ◌+◌, ◌%◌, ◌==◌, ◌&&◌, ◌<◌, ◌≤◌, ◌≡◌, nat_lt, min, bit_and, Bool, true, false, List, [], ◌∷◌, Option, if◌then◌else◌}
+use Rattle.std.specs.Prelude.{ℕ, ◌+◌, ◌%◌, ◌==◌, ◌&&◌, ◌<◌, ◌≤◌, ◌≡◌, not, nat_lt, min, bit_and, Bool, true, false, List, [], ◌∷◌, Option, if◌then◌else◌}
 use Rattle.std.specs.List.{AllByRecursion}
 use Rattle.std.specs.Option.{option_map_or}
 use Rattle.shapers_buffer.specs.Buffer.{Buffer}
@@ -60,3 +60,16 @@ pub record ComparesNumbers (numbered : Numbering) : Type 0 where
   pub each : (xs ys : List LigProps) → numbered xs ys ≡ all_beside test xs ys
   pub itself : (l : LigProps) → test l l ≡ true
   pub tells : (l m : LigProps) → test l m ≡ true → nat_lt l.0 32 ≡ nat_lt m.0 32
+
+-- whether both hold a ligature's number, or neither
+abbrev pub both_numbered : LigProps → LigProps → Bool
+both_numbered l m = if nat_lt l.0 32 then nat_lt m.0 32 else not (nat_lt m.0 32)
+
+-- The test tells that and nothing else, so ligatures leave pieces by it, too: those of a text and
+-- of its pieces have numbers at the same glyphs.
+pub record ComparesPresence (numbered : Numbering) : Type 0 where
+  pub each : (xs ys : List LigProps) → numbered xs ys ≡ all_beside both_numbered xs ys
+
+-- so do sequences, by it
+abbrev pub PresenceCompares : Type 0
+PresenceCompares = (numbered : Numbering) → ComparesPresence numbered → ComparesNumbers numbered

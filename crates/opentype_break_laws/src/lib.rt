@@ -2,6 +2,7 @@
 #![tactic(auto)]
 
 ghost use Rattle.opentype_break_laws.specs.FontPieces.{FontLookupsLeavePieces, FontRunsLeavePieces, FontTextsBreak, OneForOneGoesByPieces};
+ghost use Rattle.opentype_break_laws.specs.Sequences.{PresenceCompares};
 
 mod one_as_two;
 mod two_singles;
@@ -15,12 +16,14 @@ pub use two_singles::substitute_two;
 /// results of the text side by side. One of ligatures (type 4) does so in texts that take them piece
 /// by piece, and one of sequences (type 2) in texts with room for them, where none is empty. So do the
 /// lookups of a run, where each of them is such at its text; and a text that is shaped by them may be
-/// broken at every clear place, from its fractions on and up to the last stage.
+/// broken at every clear place, from its fractions on and up to the last stage. By whoever compares
+/// numbers of ligatures by whether there is one, sequences may follow ligatures.
 pub fn font_pieces_law()
     ensures lookups { FontLookupsLeavePieces }
     ensures runs { FontRunsLeavePieces }
     ensures one_for_one { OneForOneGoesByPieces }
     ensures texts { FontTextsBreak }
+    ensures presence { PresenceCompares }
 {
     pipeline_breaks_law();
 }
