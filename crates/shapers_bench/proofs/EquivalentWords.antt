@@ -1,5 +1,5 @@
 -- Short words normalized by Unicode's tables.
-use Rattle.std.proofs.Common.{◌≡◌, ◌+◌, ◌-◌, ◌≤◌, ◌&&◌, ◌||◌, ◌∙◌, ℕ, suc, Bool, true, false, cond, eqb, nat_lt, nat_le, List, [], ◌∷◌, ◌++◌, length, map, Option, None, Some, refl, sym, ap, arith}
+use Rattle.std.proofs.Common.{◌≡◌, ◌+◌, ◌-◌, ◌≤◌, ◌&&◌, ◌||◌, ◌∙◌, ℕ, suc, true, false, cond, eqb, nat_lt, nat_le, List, [], ◌∷◌, ◌++◌, length, map, Option, None, Some, refl, sym, ap, arith}
 use Rattle.std.specs.List.{AllByRecursion, list_all, list_any}
 use Rattle.std.proofs.lemmas.Bool.{and_from, and_parts, false≢true}
 use Rattle.std.proofs.lemmas.Bool.Decides.{nat_tests}
@@ -13,20 +13,16 @@ use Rattle.shapers_buffer.specs.Category.{is_mark}
 use Rattle.shapers_buffer.specs.Glyph.{characters}
 use Rattle.shapers_buffer.specs.Glyphs.{Glyph, Glyphs}
 use Rattle.shapers_buffer.specs.Lists.{each_after}
-use Rattle.shapers_buffer.specs.Properties.{CONTINUATION, IGNORABLE, general_category, high_byte, properties, set_property}
 use Rattle.shapers_buffer.specs.declared.buffer.category.hb_unicode_general_category_t.TheVariants.{Cn}
 use Rattle.shapers_buffer.specs.declared.buffer.level.BufferClusterLevel.{BufferClusterLevel}
-use Rattle.shapers_buffer.proofs.PropertyLemmas.{continuation_keeps, hidden_keeps, ignorable_keeps, set_is_read}
 use Rattle.shapers_normal.specs.Decomposition.{first_round}
 use Rattle.shapers_normal.specs.Normalization.{normalized}
-use Rattle.shapers_normal.specs.Properties.{is_seen_by_lookups, joiner_class}
-use Rattle.shapers_normal.specs.Sorting.{class_of, class_of_mark, classes, mark_sequences, max_marks}
+use Rattle.shapers_normal.specs.Sorting.{class_of, classes, mark_sequences, max_marks}
 use Rattle.shapers_normal.specs.Variants.{is_selector_glyph}
 use Rattle.shapers_normal.specs.declared.ot_shape_normalize.normalizing.Rounds.TheVariants.{Always}
 use Rattle.shapers_normal.proofs.VariantHalves.{grows_ninefold}
 use Rattle.shapers_pipeline.specs.TextTables.{VariantForms}
-use Rattle.shapers_prepare.specs.CharacterProperties.{CharacterProperties}
-use Rattle.shapers_prepare.specs.GlyphProperties.{is_mark_character, need_not_be_drawn, properties_set, stored_class, stored_properties, with_properties_behind}
+use Rattle.shapers_prepare.specs.GlyphProperties.{is_mark_character, properties_set, with_properties_behind}
 use Rattle.shapers_prepare.specs.UnicodeValues.{unicode_properties}
 use Rattle.shapers_unicode.specs.Classes.{modified_class}
 use Rattle.shapers_unicode.specs.General.{category_of_character}
@@ -34,52 +30,14 @@ use Rattle.shapers_unicode.specs.Pairs.{decomposed}
 use Rattle.shapers_equivalence_laws.specs.Equivalence.{CanonicallyEquivalent, OrdersAlike, fully_decomposed}
 use Rattle.shapers_equivalence_laws.specs.Laws.{IsPlainText, NormalizesEquivalently, SequencesNormalizeEquivalently, has_short_sequences, mark_class}
 use Rattle.shapers_equivalence_laws.specs.Shapers.{ShapersKeepTexts, has_split_vowel, orders_marks}
+use Rattle.shapers_equivalence_laws.proofs.PlainGlyphs.{kept-class}
 use Rattle.shapers_equivalence_laws.proofs.ShapersProved.{arranged_for, is_canonical, leaves_order}
 use Rattle.shapers_bench.specs.EquivalentWords.{AreEquivalent, IsNormalized, are_low, context_by, is_low, taken_apart}
 use Rattle.shapers_bench.specs.Words.{letter, letters_from, word_in}
 
 -- ---- what a glyph keeps of its character
 
-kept-category : (p : CharacterProperties) (continues : Bool) (c : ℕ)
-    → general_category (stored_properties p continues c) ≡ p.general c
-kept-category p continues c =
-    let plain = properties (p.general c) (stored_class p c) in
-    let ignorable = set_property IGNORABLE (need_not_be_drawn p c) plain in
-    let continued = set_property CONTINUATION continues ignorable in
-    (hidden_keeps continued).category (need_not_be_drawn p c && is_seen_by_lookups c)
-    ∙ ((continuation_keeps ignorable).category continues
-    ∙ ((ignorable_keeps plain).category (need_not_be_drawn p c)
-    ∙ (set_is_read plain).made (p.general c) (stored_class p c)))
-
-kept-byte : (p : CharacterProperties) (continues : Bool) (c : ℕ)
-    → high_byte (stored_properties p continues c) ≡ stored_class p c
-kept-byte p continues c =
-    let plain = properties (p.general c) (stored_class p c) in
-    let ignorable = set_property IGNORABLE (need_not_be_drawn p c) plain in
-    let continued = set_property CONTINUATION continues ignorable in
-    (hidden_keeps continued).byte (need_not_be_drawn p c && is_seen_by_lookups c)
-    ∙ ((continuation_keeps ignorable).byte continues
-    ∙ ((ignorable_keeps plain).byte (need_not_be_drawn p c)
-    ∙ (set_is_read plain).made_byte (p.general c) (stored_class p c)))
-
--- a mark beyond ASCII has its class
-kept-class : (p : CharacterProperties) (continues : Bool) (c : ℕ)
-    → class_of_mark (stored_properties p continues c) ≡ cond (is_mark_character p c) (p.class c) 0
-unfolding class_of_mark
-kept-class p continues c =
-    ap (λ g. cond (is_mark g) (high_byte (stored_properties p continues c)) 0) (kept-category p continues c)
-    ∙ (ap (λ b. cond (is_mark (p.general c)) b 0) (kept-byte p continues c)
-    ∙ by (nat_le 0x80 c) (is_mark (p.general c)))
-  where
-    by : (beyond mark : Bool) → cond mark
-        (cond (beyond && mark) (p.class c) (cond (beyond && p.ignorable c) (joiner_class c) 0)) 0
-        ≡ cond (beyond && mark) (p.class c) 0
-    by true true = refl
-    by true false = refl
-    by false true = refl
-    by false false = refl
-
--- for a character before the surrogates that is the class by which normalization orders it
+-- for a character before the surrogates the class that a glyph keeps is that by which normalization orders it
 same-class : (shaper : Option hb_ot_shaper_t) (plan : hb_ot_shape_plan_t) (font : Font) (variants : VariantForms) (c : ℕ) → is_low c ≡ true
     → cond (is_mark_character unicode_properties c) (unicode_properties.class c) 0
     ≡ mark_class (context_by shaper plan font variants) c
