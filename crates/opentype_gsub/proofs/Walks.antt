@@ -1,5 +1,5 @@
 -- A walk along a text, as far as it has come.
-use Rattle.std.proofs.Common.{ℕ, zero, suc, ◌+◌, ◌-◌, ◌<◌, ◌≤◌, ◌≡◌, ◌⊎◌, inl, inr, true, List, length, refl, ap, ◌∙◌, arith}
+use Rattle.std.proofs.Common.{ℕ, min, zero, suc, ◌+◌, ◌-◌, ◌<◌, ◌≤◌, ◌≡◌, ◌⊎◌, inl, inr, true, List, length, refl, ap, ◌∙◌, arith}
 use Rattle.std.proofs.lemmas.Grind.{common_steps}
 use Rattle.shapers_buffer.specs.Glyphs.{Glyphs}
 use Rattle.shapers_buffer.specs.declared.buffer.lookup_record.LookupRecord.{LookupRecord}
@@ -82,6 +82,21 @@ pub walked_all : (f : Steps) (steps : ℕ) (old : Glyphs) (from : ℕ) (before :
     (r : LookupRecord) → IsWalked f steps old from before n gs at r → n ≡ 0 →
     lookup_applied steps f old from before ≡ record { text = gs; lookups = r }
 walked_all f steps old from before n gs at r w e = w.rest ∙ ap (λ k. lookup_applied k f gs at r) e ∙ none f gs at r
+
+-- the same, and nothing is done before the place that comes next
+pub record IsNear (f : Steps) (steps : ℕ) (old : Glyphs) (from : ℕ) (before : LookupRecord) (n : ℕ) (gs : Glyphs) (at : ℕ)
+    (r : LookupRecord) (place : ℕ) : Type 0 where
+  pub walked : IsWalked f steps old from before n gs at r
+  pub still : IsStill f gs r at place
+  pub behind : min at (length gs) ≤ place
+
+pub near_start : (f : Steps) (steps : ℕ) (old : Glyphs) (from : ℕ) (before : LookupRecord) (n : ℕ) (gs : Glyphs) (at : ℕ)
+    (r : LookupRecord) → IsWalked f steps old from before n gs at r → IsNear f steps old from before n gs at r at
+near_start f steps old from before n gs at r w = record {
+  walked = w;
+  still = λ j a b. absurd (omega arith);
+  behind = omega arith;
+}
 
 pub still_left : (s : Setting) (lookup : List ℕ) (gs : Glyphs) (r : LookupRecord) (at place : ℕ) →
     ((j : ℕ) → at ≤ j → j < place → is_left s.lookup lookup (glyph_at gs j) ≡ true) →

@@ -60,8 +60,9 @@ pub fn apply_along<'a>(
         .lookup
         .sights_within(pass.classes.gdef, lookup.bytes(), 0);
     let (mut at, mut steps) = (first, steps);
+    // (the first place was found before)
+    let mut place = first;
     while steps > 0 {
-        let place = next_place(&pass.lookup, lookup, &text.view(), at);
         if place >= text.len() {
             return Ok(());
         }
@@ -71,6 +72,7 @@ pub fn apply_along<'a>(
         }
         at = step(pass, &sights, lookup, text, lookups, place)?;
         steps -= passed + 1;
+        place = next_place(&pass.lookup, lookup, &text.view(), at);
     }
     Ok(())
 }

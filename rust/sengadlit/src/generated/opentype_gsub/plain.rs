@@ -121,8 +121,9 @@ fn put_along(
 ) {
     let sight = pass.lookup.sight(pass.classes.gdef, lookup.bytes());
     let (mut at, mut steps) = (first, text.len().saturating_sub(first));
+    // (the first place was found before)
+    let mut place = first;
     while steps > 0 {
-        let place = next_place(&pass.lookup, lookup, &text.view(), at);
         if place >= text.len() {
             return;
         }
@@ -132,6 +133,7 @@ fn put_along(
         }
         at = step(pass, &sight, lookup, text, lookups, place);
         steps -= passed + 1;
+        place = next_place(&pass.lookup, lookup, &text.view(), at);
     }
 }
 
