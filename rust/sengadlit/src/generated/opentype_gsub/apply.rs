@@ -127,8 +127,9 @@ fn apply_ligature(
     at: usize,
 ) -> Option<usize> {
     let set = set_by(bytes, place)?;
-    match first_fitting(classes.gdef, sight, set, &text.view(), at) {
-        Some(fitting) => Some(put_ligature(classes, level, text, at, &fitting)),
+    // (by reference, since it would be moved with the room for its places)
+    match &first_fitting(classes.gdef, sight, set, &text.view(), at) {
+        Some(fitting) => Some(put_ligature(classes, level, text, at, fitting)),
         None => None,
     }
 }
