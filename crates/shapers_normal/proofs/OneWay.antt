@@ -1,12 +1,15 @@
 -- Where all clusters come apart one way, whether each stays is a question of single glyphs.
-use Rattle.std.proofs.Common.{◌≡◌, ◌&&◌, Bool, true, false, cond, eqb, List, [], ◌∷◌, length, refl, ap, ◌∙◌, sym}
-use Rattle.std.specs.List.{list_all}
+use Rattle.std.proofs.Common.{◌≡◌, ◌&&◌, ◌||◌, Bool, true, false, cond, eqb, List, [], ◌∷◌, length, refl, ap, ◌∙◌, sym}
+use Rattle.std.specs.Prelude.{not}
+use Rattle.std.specs.List.{list_all, list_any}
+use Rattle.std.proofs.Math.Bool.{and-false}
 use Rattle.shapers_base.specs.declared.plan.record.NormalizationMode.TheVariants as modes
 use Rattle.shapers_buffer.specs.Glyphs.{Glyph, Glyphs}
 use Rattle.shapers_normal.specs.Context.{Context}
 use Rattle.shapers_normal.specs.Decomposition.{apart_way, cluster_stays, image, is_short_alone, is_short_with_marks, mark_clusters}
 use Rattle.shapers_normal.specs.Sorting.{is_mark_glyph}
-use Rattle.shapers_normal.specs.Variants.{cut_before_others, with_first}
+use Rattle.shapers_normal.specs.DecompositionWalk.{stays_unselected}
+use Rattle.shapers_normal.specs.Variants.{cut_before_others, is_selector_glyph, with_first}
 use Rattle.shapers_normal.specs.declared.ot_shape_normalize.decomposing.Way.{Way}
 use Rattle.shapers_normal.specs.declared.ot_shape_normalize.decomposing.Way.TheVariants.{Short, Whole}
 
@@ -69,3 +72,18 @@ pub clusters_stay_whole : (context : Context) (gs : Glyphs) → context.mode ≡
 clusters_stay_whole context gs is =
     sym (all_cut is_mark_glyph (stays_by context Whole) gs)
     ∙ one_way context Whole (all_whole context is) (mark_clusters gs)
+
+-- whether none is a selector and each stays is one question of each glyph
+both_asked : (t o a b l : Bool) → l ≡ (not a && b) → ((not t && o) && l) ≡ (not (t || a) && (o && b))
+both_asked true o a b l is = refl
+both_asked false true a b l is = is
+both_asked false false a b l is = sym (and-false (not a))
+
+pub all_unselected : (context : Context) (way : Way) (gs : Glyphs)
+    → list_all (stays_unselected context way) gs
+    ≡ (not (list_any is_selector_glyph gs) && list_all (stays_by context way) gs)
+all_unselected context way [] = refl
+all_unselected context way (g ∷ gs) =
+    both_asked (is_selector_glyph g) (stays_by context way g) (list_any is_selector_glyph gs)
+    (list_all (stays_by context way) gs) (list_all (stays_unselected context way) gs)
+    (all_unselected context way gs)

@@ -5,7 +5,7 @@ ghost use Rattle.shapers_buffer.specs.Refusals.{RefusesLength};
 ghost use Rattle.shapers_buffer.specs.declared.buffer.refusal.ShaperError.TheVariants.{TooLong};
 ghost use Rattle.shapers_normal.specs.Decomposition.{apart_in, as_part, becomes, cluster_becomes, cluster_stays, first_round, is_whole, mark_clusters, stays_alone, stays_together, text_decomposed, drawn_space, image, is_short_alone, is_short_with_marks, is_space_separator, glyph_number, with_own_glyph, space_kind, apart_way, without_glyph};
 ghost use Rattle.shapers_normal.specs.Context.{has_glyph};
-ghost use Rattle.shapers_normal.specs.DecompositionWalk.{or_base_alone, then_come_off};
+ghost use Rattle.shapers_normal.specs.DecompositionWalk.{or_base_alone, stays_unselected, then_come_off};
 ghost use Rattle.shapers_normal.specs.declared.ot_shape_normalize.decomposing.Way.TheVariants.{Short, Whole};
 ghost use Rattle.shapers_normal.specs.Sorting.{is_mark_glyph};
 
@@ -13,7 +13,7 @@ use super::context::NormalizeContext;
 use super::properties::set_character;
 use super::sorting::is_mark;
 use super::variants::{
-    has_selector, is_kept, join_variants, room_behind_forms, with_number, write_forms,
+    has_selector, is_kept, is_selector, join_variants, room_behind_forms, with_number, write_forms,
 };
 use arrayvec::ArrayVec;
 use shapers_base::buffer::{
@@ -122,22 +122,15 @@ impl<'a, C: NormalizeContext> GlyphChange for Numbering<'a, C> {
     }
 }
 
-// Whether nothing comes apart: no glyph is a selector, and each character stays.
+// Whether nothing comes apart: no glyph is a selector, and each character stays. Most shapers want all
+// characters one way, whatever their clusters.
 #[inline]
 fn stays_together<C: NormalizeContext>(context: &C, glyphs: &[hb_glyph_info_t]) -> bool
     ensures { result ≡ stays_together (C.context context.now) glyphs.now }
 {
-    !has_selector(glyphs) && all_clusters_stay(context, glyphs)
-}
-
-// Whether each character stays. Most shapers want all characters one way, whatever their clusters.
-#[inline]
-fn all_clusters_stay<C: NormalizeContext>(context: &C, glyphs: &[hb_glyph_info_t]) -> bool
-    ensures { result ≡ list_all (cluster_stays (C.context context.now)) (mark_clusters glyphs.now) }
-{
     match context.normalization_preference() {
         NormalizationMode::NONE => all_stay(context, Way::Short, glyphs),
-        NormalizationMode::AUTO => each_cluster_stays(context, glyphs),
+        NormalizationMode::AUTO => !has_selector(glyphs) && each_cluster_stays(context, glyphs),
         NormalizationMode::CD => all_stay(context, Way::Whole, glyphs),
     }
 }
@@ -168,15 +161,23 @@ fn cluster_stays<C: NormalizeContext>(context: &C, cluster: &[hb_glyph_info_t]) 
         .all(|glyph| stays(context, way, glyph.glyph_id))
 }
 
-// Whether each of these characters stays, one way or the other.
+// Whether each of these characters is no selector and stays, one way or the other.
 #[inline]
 fn all_stay<C: NormalizeContext>(context: &C, way: Way, glyphs: &[hb_glyph_info_t]) -> bool
     ensures { let context = C.context context.now in
-        result ≡ list_all (λ g. length (image context way g.glyph_id) == 0) glyphs.now }
+        result ≡ list_all (stays_unselected context way) glyphs.now }
 {
     glyphs
         .iter()
-        .all(|glyph| stays(context, way, glyph.glyph_id))
+        .all(|glyph| stays_unselected(context, way, glyph))
+}
+
+// Whether a glyph is no selector, and its character stays, one way or the other.
+#[inline]
+fn stays_unselected<C: NormalizeContext>(context: &C, way: Way, glyph: &hb_glyph_info_t) -> bool
+    ensures { result ≡ stays_unselected (C.context context.now) way glyph.now }
+{
+    !is_selector(glyph) && stays(context, way, glyph.glyph_id)
 }
 
 // Whether a character stays, one way or the other: most do, and then no list is made of its parts.

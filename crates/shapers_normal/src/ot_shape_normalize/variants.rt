@@ -23,7 +23,7 @@ fn selects_form(c: u32) -> bool
 
 // Whether a glyph is a selector.
 #[inline]
-fn is_selector(glyph: &hb_glyph_info_t) -> bool
+pub(super) fn is_selector(glyph: &hb_glyph_info_t) -> bool
     ensures { result ≡ is_selector_glyph glyph.now }
 {
     selects_form(glyph.glyph_id)

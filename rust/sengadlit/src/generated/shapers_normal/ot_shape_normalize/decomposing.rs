@@ -8,7 +8,7 @@ use super::context::NormalizeContext;
 use super::properties::set_character;
 use super::sorting::is_mark;
 use super::variants::{
-    has_selector, is_kept, join_variants, room_behind_forms, with_number, write_forms,
+    has_selector, is_kept, is_selector, join_variants, room_behind_forms, with_number, write_forms,
 };
 use crate::generated::shapers_base::buffer::{
     Buffer, BufferClusterLevel, GeneralCategory, GlyphChange, GlyphInfo, GlyphProps,
@@ -122,18 +122,13 @@ impl<'a, C: NormalizeContext> GlyphChange for Numbering<'a, C> {
     }
 }
 
-// Whether nothing comes apart: no glyph is a selector, and each character stays.
+// Whether nothing comes apart: no glyph is a selector, and each character stays. Most shapers want all
+// characters one way, whatever their clusters.
 #[inline]
 fn stays_together<C: NormalizeContext>(context: &C, glyphs: &[GlyphInfo]) -> bool {
-    !has_selector(glyphs) && all_clusters_stay(context, glyphs)
-}
-
-// Whether each character stays. Most shapers want all characters one way, whatever their clusters.
-#[inline]
-fn all_clusters_stay<C: NormalizeContext>(context: &C, glyphs: &[GlyphInfo]) -> bool {
     match context.normalization_preference() {
         NormalizationMode::NONE => all_stay(context, Way::Short, glyphs),
-        NormalizationMode::AUTO => each_cluster_stays(context, glyphs),
+        NormalizationMode::AUTO => !has_selector(glyphs) && each_cluster_stays(context, glyphs),
         NormalizationMode::CD => all_stay(context, Way::Whole, glyphs),
     }
 }
@@ -160,12 +155,18 @@ fn cluster_stays<C: NormalizeContext>(context: &C, cluster: &[GlyphInfo]) -> boo
         .all(|glyph| stays(context, way, glyph.glyph_id))
 }
 
-// Whether each of these characters stays, one way or the other.
+// Whether each of these characters is no selector and stays, one way or the other.
 #[inline]
 fn all_stay<C: NormalizeContext>(context: &C, way: Way, glyphs: &[GlyphInfo]) -> bool {
     glyphs
         .iter()
-        .all(|glyph| stays(context, way, glyph.glyph_id))
+        .all(|glyph| stays_unselected(context, way, glyph))
+}
+
+// Whether a glyph is no selector, and its character stays, one way or the other.
+#[inline]
+fn stays_unselected<C: NormalizeContext>(context: &C, way: Way, glyph: &GlyphInfo) -> bool {
+    !is_selector(glyph) && stays(context, way, glyph.glyph_id)
 }
 
 // Whether a character stays, one way or the other: most do, and then no list is made of its parts.

@@ -22,7 +22,7 @@ fn selects_form(c: u32) -> bool {
 
 // Whether a glyph is a selector.
 #[inline]
-fn is_selector(glyph: &GlyphInfo) -> bool {
+pub(super) fn is_selector(glyph: &GlyphInfo) -> bool {
     selects_form(glyph.glyph_id)
 }
 
