@@ -1,4 +1,5 @@
--- Passes that leave a text as it is: no character is rotated, and each glyph is a grapheme of its own.
+-- Passes that leave a text as it is: no character is rotated, and each glyph is a grapheme of its own. And
+-- one that mirrors each character and does nothing else.
 use Rattle.std.proofs.Common.{◌≡◌, ◌==◌, ◌+◌, ◌-◌, ℕ, Bool, true, false, ◌||◌, ◌&&◌, cond, List, [], ◌∷◌, ◌++◌, map, take, drop, nat_lt, refl, sym, ap, ◌∙◌, arith}
 use Rattle.std.specs.Prelude.{not}
 use Rattle.std.specs.List.{list_any}
