@@ -71,6 +71,18 @@ fn note(shaper: usize, hook: Hook, buffer: &mut hb_buffer_t) {
     CALLS.with_borrow_mut(|calls| calls.push(Call { shaper, hook, buffer: found, marks: Vec::new() }));
 }
 
+/// Calls a hook, behind which the buffer's lists are at least as long as before. rustybuzz's own hooks don't shorten them
+/// where a text gets shorter, and its clearing of syllables goes over what stands behind the text, too.
+fn in_long_lists<T>(buffer: &mut hb_buffer_t, hook: impl FnOnce(&mut hb_buffer_t) -> T) -> T {
+    let longest = buffer.info.len();
+    let answer = hook(buffer);
+    if buffer.info.len() < longest {
+        buffer.info.resize(longest, hb_glyph_info_t::default());
+        buffer.pos.resize(longest, GlyphPosition::default());
+    }
+    answer
+}
+
 /// Makes a buffer's text and settings those of another, in the room that it has.
 fn fill(buffer: &mut hb_buffer_t, from: &hb_buffer_t) {
     buffer.info.clone_from(&from.info);
@@ -111,17 +123,17 @@ pub fn preprocess_text<const S: usize>(plan: &hb_ot_shape_plan_t, font: FontRef,
     if matches!(Shaper::ALL[S], Shaper::Thai | Shaper::Hangul) {
         note(S, Hook::PreprocessText, buffer);
     }
-    super::preprocess_text::<S>(plan, font, buffer);
+    in_long_lists(buffer, |buffer| super::preprocess_text::<S>(plan, font, buffer));
 }
 
 pub fn setup_masks<const S: usize>(plan: &hb_ot_shape_plan_t, font: FontRef, buffer: &mut hb_buffer_t) {
     note(S, Hook::SetupMasks, buffer);
-    super::setup_masks::<S>(plan, font, buffer);
+    in_long_lists(buffer, |buffer| super::setup_masks::<S>(plan, font, buffer));
 }
 
 pub fn postprocess_glyphs<const S: usize>(plan: &hb_ot_shape_plan_t, font: FontRef, buffer: &mut hb_buffer_t) {
     note(S, Hook::PostprocessGlyphs, buffer);
-    super::postprocess_glyphs::<S>(plan, font, buffer);
+    in_long_lists(buffer, |buffer| super::postprocess_glyphs::<S>(plan, font, buffer));
 }
 
 pub fn reorder_marks<const S: usize>(plan: &hb_ot_shape_plan_t, buffer: &mut hb_buffer_t, start: usize, end: usize) {
@@ -136,7 +148,7 @@ pub fn reorder_marks<const S: usize>(plan: &hb_ot_shape_plan_t, buffer: &mut hb_
             call.marks.push(start..end);
         }
     });
-    super::reorder_marks::<S>(plan, buffer, start, end);
+    in_long_lists(buffer, |buffer| super::reorder_marks::<S>(plan, buffer, start, end));
 }
 
 pub fn pause<const P: usize>(plan: &hb_ot_shape_plan_t, font: FontRef, buffer: &mut hb_buffer_t) -> bool {
@@ -146,7 +158,7 @@ pub fn pause<const P: usize>(plan: &hb_ot_shape_plan_t, font: FontRef, buffer: &
     if Pause::ALL[P] != Pause::ArabicFallbackShape {
         note(shaper, Hook::Pause(Pause::ALL[P]), buffer);
     }
-    super::pause::<P>(plan, font, buffer)
+    in_long_lists(buffer, |buffer| super::pause::<P>(plan, font, buffer))
 }
 
 // ---- A recorded text ----
