@@ -1,10 +1,10 @@
 -- Rows for borders of found syllables, written out from the rules: the smallest texts in which one
 -- stands inside a cluster.
-use Rattle.std.proofs.Common.{◌≡◌, ℕ, true, false, List, [], ◌∷◌, arith, refl, sym}
+use Rattle.std.proofs.Common.{◌≡◌, true, false, List, [], ◌∷◌, arith, refl, sym}
 use Rattle.std.specs.Prelude.{map}
 use Rattle.std.proofs.lemmas.Bool.{false≢true}
 use Rattle.shapers_buffer.specs.Glyph.{default_glyph}
-use Rattle.shapers_buffer.specs.Glyphs.{Glyph, Glyphs}
+use Rattle.shapers_buffer.specs.Glyphs.{Glyph}
 use Rattle.shapers_buffer.specs.declared.buffer.syllables.Span.{Span}
 use Rattle.shapers_spans.specs.Indic.{indic_grammar, indic_rules}
 use Rattle.shapers_spans.specs.Khmer.{khmer_grammar, khmer_rules}
@@ -14,7 +14,7 @@ use Rattle.shapers_spans.proofs.GrammarRows.{kind_by}
 use Rattle.shapers_spans.proofs.Steps.{nullable, same, chain, member, before, insert, union, step}
 use Rattle.shapers_spans.proofs.Tables.{first_kind, after}
 use Rattle.shapers_break_laws.specs.IndicBreaks.{SpansSeparateClusters}
-use Rattle.shapers_found_laws.specs.FoundBorders.{BeginsGrapheme, EachOpens, IsOneOf}
+use Rattle.shapers_found_laws.specs.FoundBorders.{BeginsGrapheme, IsOneOf}
 
 -- Danda and the vowel sign AA of Devanagari (0964 093E), of categories 0 and 7: no rule takes the
 -- first, nor both (255), and the second is a broken syllable, of kind 4

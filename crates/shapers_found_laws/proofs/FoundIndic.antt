@@ -14,12 +14,10 @@ use Rattle.shapers_indic_initial.specs.InitialPause.{indic_circles}
 use Rattle.shapers_spans.specs.Indic.{indic_grammar}
 use Rattle.rustybuzz_shapers.specs.FoundSyllables.{PauseRun, RefusesFound}
 use Rattle.rustybuzz_shapers.specs.Monotone.{CirclesStayMonotone}
-use Rattle.rustybuzz_shapers.specs.declared.shaper.checked.CallError.TheVariants as call
 use Rattle.shapers_plan.specs.declared.ot_map.lookups.Stage.{Stage}
-use Rattle.shapers_plan.specs.declared.ot_map.lookups.StageLookup.{StageLookup}
-use Rattle.shapers_pipeline.specs.Lookups.{LookupRefusals, lookups_of_stage}
-use Rattle.shapers_pipeline.specs.Stages.{StageRun, StagesStopped, Substitution, stage_looked_up}
-use Rattle.shapers_found_laws.specs.AddsNone.{has_category, is_unknown}
+use Rattle.shapers_pipeline.specs.Lookups.{lookups_of_stage}
+use Rattle.shapers_pipeline.specs.Stages.{StageRun, Substitution, stage_looked_up}
+use Rattle.shapers_found_laws.specs.AddsNone.{is_in_category, is_unknown}
 use Rattle.shapers_found_laws.specs.FoundIndic.{AreIndicStages, FoundIndicKnows, FoundIndicOpens, FoundIndicSorts, OthersKnow, asks_kinds, ends_asking}
 use Rattle.shapers_found_laws.specs.FoundSyllables.{AtMostOneEach}
 use Rattle.shapers_found_laws.proofs.AddedNone.{at-most-none, looked-at-most, none-at-most}
@@ -42,7 +40,7 @@ indic-between : (r : Substitution) (first second : Stage) (behind : List Stage) 
     → AtMostOneEach 14 (stage_looked_up r second mid).glyphs
 indic-between r first second behind old mid are run =
     let looked = stage_looked_up r first old in
-    looked-at-most 1 (has_category 14) r.substituted (lookups_of_stage second r.list) are.rephas mid
+    looked-at-most 1 (is_in_category 14) r.substituted (lookups_of_stage second r.list) are.rephas mid
     (indic-set-up r.plan r.font looked mid (paused-by r.plan r.font first.pause SetupSyllablesIndic looked mid are.set_up run))
 
 pub indic-opens : FoundIndicOpens

@@ -1,7 +1,6 @@
 -- What a set-up by found spans leaves of how often a syllable has a category.
-use Rattle.std.proofs.Common.{ℕ, Bool, true, false, ◌==◌, List, [], ◌∷◌, ◌++◌, cond, refl, subst}
+use Rattle.std.proofs.Common.{ℕ, Bool, true, false, ◌==◌, cond, refl, subst}
 use Rattle.std.specs.Prelude.{map}
-use Rattle.std.specs.List.{flat_map}
 use Rattle.shapers_buffer.specs.GlyphFlags.{flagged, with_bits, with_bits_off}
 use Rattle.shapers_buffer.specs.Glyphs.{Glyph, Glyphs}
 use Rattle.shapers_buffer.specs.Syllables.{syllables}

@@ -1,5 +1,5 @@
 -- The stages of the universal shaper, whose set-up finds syllables by its grammar.
-use Rattle.std.proofs.Common.{◌≡◌, ℕ, true, false, List, [], ◌∷◌, cond, refl, sym, subst, inl, Option, Some}
+use Rattle.std.proofs.Common.{◌≡◌, ℕ, true, false, [], ◌∷◌, cond, refl, sym, subst, inl, Option, Some}
 use Rattle.std.specs.Prelude.{map}
 use Rattle.std.specs.List.{AllZip, flat_map}
 use Rattle.std.proofs.lemmas.Bool.{false≢true}
@@ -14,15 +14,13 @@ use Rattle.shapers_buffer.specs.Syllables.{syllables}
 use Rattle.shapers_syllabic.specs.Syllabic.{unsubstituted}
 use Rattle.shapers_syllabic.proofs.CircleLaws.{joined-syllables}
 use Rattle.shapers_universal.specs.PlanData.{rphf_of}
-use Rattle.shapers_universal.specs.UniversalSyllables.{first_recorded, in_category, with_rphf_recorded}
+use Rattle.shapers_universal.specs.UniversalSyllables.{first_recorded, in_category}
 use Rattle.shapers_universal.specs.UniversalText.{universal_circles}
 use Rattle.rustybuzz_shapers.specs.FoundSyllables.{PauseRun}
-use Rattle.rustybuzz_shapers.specs.Monotone.{AtMostOneRepha}
-use Rattle.rustybuzz_shapers.specs.Pauses.{pause_circles}
 use Rattle.shapers_pipeline.specs.ClusterLaws.{IfPaused, PauseSorts}
 use Rattle.shapers_pipeline.specs.Lookups.{lookups_of_stage}
 use Rattle.shapers_pipeline.specs.Stages.{StagesRun, Substitution, stage_looked_up}
-use Rattle.shapers_found_laws.specs.AddsNone.{has_category}
+use Rattle.shapers_found_laws.specs.AddsNone.{is_in_category}
 use Rattle.shapers_found_laws.specs.FoundPauses.{reorders}
 use Rattle.shapers_found_laws.specs.FoundSyllables.{AtMostOneEach, GainsNone}
 use Rattle.shapers_found_laws.specs.FoundUniversal.{AreUniversalStages, FoundUniversalOpens, FoundUniversalSorts, RphfApart, UniversalStages, stages_before}
@@ -108,10 +106,10 @@ few-before r s old mid are apart (m1, (a, (m2, (b, (m3, (c, (m4, (d, (m5, (e, la
     let two_on = looked-alone t f (lookups_of_stage s.recorded r.list) are.rephas.1.0 are.masked.1.0 m2 two in
     let three = recorded-few r.plan r.font x2 m3
     (paused-by r.plan r.font s.recorded.pause RecordRphf x2 m3 are.recorded c) two_on in
-    let three_on = looked-at-most 1 (has_category 18) f (lookups_of_stage s.cleared_again r.list) are.rephas.1.1.0 m3 three in
+    let three_on = looked-at-most 1 (is_in_category 18) f (lookups_of_stage s.cleared_again r.list) are.rephas.1.1.0 m3 three in
     let four = cleared-few r.plan r.font x3 m4
     (paused-by r.plan r.font s.cleared_again.pause ClearSubstitutionFlags x3 m4 are.cleared_again d) three_on in
-    let four_on = looked-at-most 1 (has_category 18) f (lookups_of_stage s.pref r.list) are.rephas.1.1.1.0 m4 four in
+    let four_on = looked-at-most 1 (is_in_category 18) f (lookups_of_stage s.pref r.list) are.rephas.1.1.1.0 m4 four in
     let five = pref-few r.plan r.font x4 m5
     (paused-by r.plan r.font s.pref.pause RecordPref x4 m5 are.pref e) four_on in
     subst Rephas (sym last) five
@@ -122,7 +120,7 @@ universal-opens r s old mid are apart run =
     let k = universal_circles in
     circles-behind (r.font.nominal dotted_circle) k.broken_kind k.category k.repha k.position text
     (opens-with-one 18 text.glyphs
-    (looked-at-most 1 (has_category 18) r.substituted (lookups_of_stage s.reordered r.list) are.rephas.1.1.1.1.0 mid
+    (looked-at-most 1 (is_in_category 18) r.substituted (lookups_of_stage s.reordered r.list) are.rephas.1.1.1.1.0 mid
     (few-before r s old mid are apart run)))
 
 -- ---- all of them

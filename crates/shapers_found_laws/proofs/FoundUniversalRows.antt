@@ -1,12 +1,11 @@
 -- Rows for the stages of Indic and of the universal shaper, written out from what they say.
-use Rattle.std.proofs.Common.{◌≡◌, ℕ, ◌≤◌, true, false, List, [], ◌∷◌, arith, inl, inr, lit≤, refl, None, Some}
-use Rattle.std.specs.Prelude.{count_by, map}
-use Rattle.std.proofs.lemmas.Bool.{false≢true}
+use Rattle.std.proofs.Common.{◌≡◌, ℕ, ◌≤◌, true, false, [], ◌∷◌, arith, inl, inr, lit≤, refl}
+use Rattle.std.specs.Prelude.{map}
 use Rattle.shapers_base.specs.declared.plan.pause.Pause.TheVariants.{SetupSyllablesIndic, SetupSyllablesKhmer, SetupSyllablesMyanmar, SetupSyllablesUse, InitialReordering, ReorderKhmer, ReorderMyanmar, ReorderUse, FinalReordering, RecordStch, RecordRphf, RecordPref, SyllabicClearVar, ClearSubstitutionFlags, ArabicFallbackShape}
 use Rattle.shapers_buffer.specs.Glyph.{default_glyph}
-use Rattle.shapers_buffer.specs.Glyphs.{Glyph, Glyphs}
+use Rattle.shapers_buffer.specs.Glyphs.{Glyph}
 use Rattle.shapers_universal.specs.UniversalSyllables.{rphf_recorded, with_rphf}
-use Rattle.shapers_found_laws.specs.AddsNone.{AddsNone, has_category, is_unknown}
+use Rattle.shapers_found_laws.specs.AddsNone.{AddsNone, is_in_category, is_unknown}
 use Rattle.shapers_found_laws.specs.FoundIndic.{asks_kinds}
 use Rattle.shapers_found_laws.specs.FoundSyllables.{OpensWithOne}
 use Rattle.shapers_found_laws.specs.FoundUniversal.{RephaAlone, may_be_repha}
@@ -29,11 +28,11 @@ put_in : ℕ → ℕ → Glyph
 put_in k mask = record (glyph_of k mask) { glyph_props = record { 0 = 0x10 } }
 
 -- R and B become one glyph R, and R becomes two
-row_ligated : AddsNone (has_category 18) (glyph_of 18 0 ∷ glyph_of 1 0 ∷ []) (glyph_of 18 0 ∷ [])
+row_ligated : AddsNone (is_in_category 18) (glyph_of 18 0 ∷ glyph_of 1 0 ∷ []) (glyph_of 18 0 ∷ [])
 unfolding glyph_of
 row_ligated = (lit≤ tt, tt)
 
-row_doubled : AddsNone (has_category 18) (glyph_of 18 0 ∷ []) (glyph_of 18 0 ∷ glyph_of 18 0 ∷ []) → ⊥
+row_doubled : AddsNone (is_in_category 18) (glyph_of 18 0 ∷ []) (glyph_of 18 0 ∷ glyph_of 18 0 ∷ []) → ⊥
 unfolding glyph_of
 row_doubled adds = omega (arith, adds.0)
 

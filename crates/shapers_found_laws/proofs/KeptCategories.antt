@@ -1,15 +1,15 @@
 -- Changes that keep glyphs in their syllables and give none of them a category.
-use Rattle.std.proofs.Common.{◌≡◌, ℕ, zero, suc, ◌+◌, ◌≤◌, Bool, true, false, ◌==◌, List, [], ◌∷◌, cond, get_or, length, refl, sym, ap, subst, ◌∙◌, arith, lit≤, Option, None, Some}
+use Rattle.std.proofs.Common.{◌≡◌, ℕ, zero, suc, ◌+◌, ◌≤◌, Bool, true, false, ◌==◌, List, [], ◌∷◌, cond, get_or, length, refl, sym, ap, subst, arith, lit≤, Option, None, Some}
 use Rattle.std.specs.Prelude.{◌||◌, nat_lt, All, position, replicate, sum_by}
 use Rattle.std.specs.List.{AllByRecursion, AllZip, list_any, position_or_len, prefix_len}
-use Rattle.std.proofs.lemmas.Bool.{cond-false, false≢true}
+use Rattle.std.proofs.lemmas.Bool.{cond-false}
 use Rattle.std.proofs.lemmas.List.{length-append}
 use Rattle.std.proofs.lemmas.List.Elements.{All-from_recursion}
 use Rattle.std.proofs.lemmas.List.Sums.{sum_by-cons}
 use Rattle.shapers_buffer.proofs.MappedLists.{all-append}
 use Rattle.shapers_buffer.specs.Glyphs.{Glyph, Glyphs}
 use Rattle.shapers_buffer.specs.declared.buffer.syllables.Span.{Span}
-use Rattle.shapers_buffer.specs.Syllables.{kind_of, span_byte, span_bytes, spans_cover, syllables, with_bytes, with_in_front}
+use Rattle.shapers_buffer.specs.Syllables.{kind_of, span_byte, span_bytes, spans_cover, syllables, with_bytes}
 use Rattle.shapers_spans.proofs.Cutting.{covered}
 use Rattle.shapers_spans.specs.Grammar.{Grammar}
 use Rattle.shapers_spans.specs.Khmer.{khmer_grammar}

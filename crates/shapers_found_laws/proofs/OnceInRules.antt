@@ -18,7 +18,7 @@ use Rattle.shapers_spans.specs.Passing.{begins_passed, none_passed}
 use Rattle.shapers_spans.proofs.Cutting.{behind-reach}
 use Rattle.shapers_spans.proofs.Reached.{behind-is-read}
 use Rattle.shapers_syllabic.proofs.SyllabicLemmas.{covers_first, cut_next}
-use Rattle.shapers_found_laws.specs.FoundSyllables.{AtMostOneEach, FoundAtMostOne, in_spans}
+use Rattle.shapers_found_laws.specs.FoundSyllables.{FoundAtMostOne, in_spans}
 use Rattle.shapers_buffer.specs.Syllables.{in_syllable, span_byte, span_bytes, spans_cover, syllables, with_bytes}
 use Rattle.shapers_spans.specs.Grammar.{Grammar, BeginsWith, IsCutFrom, lead_spans, IsSyllable, reach_of, read_of}
 use Rattle.shapers_spans.specs.Re.{Re, none, empty, one, seq, alt, star, IsIn, Many, done, more}

@@ -1,8 +1,7 @@
 -- Syllables in which a repha stands without another glyph that may be recorded as one.
-use Rattle.std.proofs.Common.{◌≡◌, ◌∙◌, ℕ, suc, ◌+◌, ◌≤◌, Bool, true, false, ◌==◌, ◌⊎◌, List, [], ◌∷◌, ◌++◌, cond, take, drop, refl, sym, ap, subst, inl, inr, arith}
+use Rattle.std.proofs.Common.{◌≡◌, ℕ, suc, ◌+◌, ◌≤◌, Bool, true, false, ◌==◌, ◌⊎◌, List, [], ◌∷◌, ◌++◌, cond, take, drop, refl, sym, ap, subst, inl, inr, arith}
 use Rattle.std.specs.Prelude.{◌||◌, count_by, map}
 use Rattle.std.specs.List.{AllByRecursion, AllZip, flat_map, prefix_len}
-use Rattle.std.proofs.lemmas.Bool.{false≢true}
 use Rattle.std.proofs.lemmas.List.{take-append-drop}
 use Rattle.std.proofs.lemmas.List.Sums.{sum_by-cons}
 use Rattle.shapers_base.specs.Masks.{has_bits}
@@ -13,7 +12,7 @@ use Rattle.shapers_buffer.specs.Syllables.{syllables}
 use Rattle.shapers_plan.specs.declared.ot_map.lookups.StageLookup.{StageLookup}
 use Rattle.shapers_pipeline.specs.Lookups.{looked_up}
 use Rattle.shapers_universal.specs.UniversalSyllables.{first_recorded, in_category, rphf_recorded}
-use Rattle.shapers_found_laws.specs.AddsNone.{LookupsAddNone, has_category}
+use Rattle.shapers_found_laws.specs.AddsNone.{LookupsAddNone, is_in_category}
 use Rattle.shapers_found_laws.specs.FoundUniversal.{RephaAlone, may_be_repha}
 use Rattle.shapers_found_laws.proofs.AddedNone.{AtMost}
 use Rattle.shapers_found_laws.proofs.ZippedGlyphs.{count-less, syllables-of-each}
@@ -27,21 +26,21 @@ either-true : (a b : Bool) → b ≡ true → (a || b) ≡ true
 either-true true b h = refl
 either-true false b h = h
 
-repha-may : (mask : ℕ) (g : Glyph) → has_category 18 g ≡ true → may_be_repha mask g ≡ true
+repha-may : (mask : ℕ) (g : Glyph) → is_in_category 18 g ≡ true → may_be_repha mask g ≡ true
 repha-may mask g is = ap (λ b. b || has_bits mask g) is
 
-pub rephas-may : (mask : ℕ) (gs : Glyphs) → count_by (has_category 18) gs ≤ count_by (may_be_repha mask) gs
-rephas-may mask gs = count-less (has_category 18) (may_be_repha mask) (repha-may mask) gs
+pub rephas-may : (mask : ℕ) (gs : Glyphs) → count_by (is_in_category 18) gs ≤ count_by (may_be_repha mask) gs
+rephas-may mask gs = count-less (is_in_category 18) (may_be_repha mask) (repha-may mask) gs
 
 -- ---- what keeps it
 
-pub alone-less : (mask : ℕ) (p q : Glyphs) → count_by (has_category 18) q ≤ count_by (has_category 18) p
+pub alone-less : (mask : ℕ) (p q : Glyphs) → count_by (is_in_category 18) q ≤ count_by (is_in_category 18) p
     → count_by (may_be_repha mask) q ≤ count_by (may_be_repha mask) p → RephaAlone mask p → RephaAlone mask q
 alone-less mask p q fewer less (inl none) = inl (omega (arith, fewer, none))
 alone-less mask p q fewer less (inr few) = inr (omega (arith, less, few))
 
 pieces-less : (mask : ℕ) (ps qs : List Glyphs)
-    → AllZip (λ before after. count_by (has_category 18) after ≤ count_by (has_category 18) before) ps qs
+    → AllZip (λ before after. count_by (is_in_category 18) after ≤ count_by (is_in_category 18) before) ps qs
     → AllZip (λ before after. count_by (may_be_repha mask) after ≤ count_by (may_be_repha mask) before) ps qs
     → AllAlone mask ps → AllAlone mask qs
 pieces-less mask [] [] fewer less alone = tt
@@ -51,7 +50,7 @@ pieces-less mask (p ∷ ps) (q ∷ qs) fewer less alone =
     (alone-less mask p q fewer.0 less.0 alone.0, pieces-less mask ps qs fewer.1 less.1 alone.1)
 
 pub looked-alone : (mask : ℕ) (f : StageLookup → Buffer → Buffer) (list : List StageLookup)
-    → LookupsAddNone (has_category 18) f list → LookupsAddNone (may_be_repha mask) f list → (b : Buffer)
+    → LookupsAddNone (is_in_category 18) f list → LookupsAddNone (may_be_repha mask) f list → (b : Buffer)
     → AllAlone mask (syllables b.glyphs) → AllAlone mask (syllables (looked_up f list b).glyphs)
 looked-alone mask f [] rephas set b alone = alone
 looked-alone mask f (x ∷ xs) rephas set b alone =
@@ -93,10 +92,10 @@ shaped mask g gs = by (has_bits mask g) refl
         )
 
 abbrev repha_count : Glyphs → ℕ
-repha_count gs = count_by (has_category 18) gs
+repha_count gs = count_by (is_in_category 18) gs
 
-repha-cons : (g : Glyph) (gs : Glyphs) → repha_count (g ∷ gs) ≡ cond (has_category 18 g) 1 0 + repha_count gs
-repha-cons g gs = sum_by-cons (λ (x : Glyph). cond (has_category 18 x) 1 0) g gs
+repha-cons : (g : Glyph) (gs : Glyphs) → repha_count (g ∷ gs) ≡ cond (is_in_category 18 g) 1 0 + repha_count gs
+repha-cons g gs = sum_by-cons (λ (x : Glyph). cond (is_in_category 18 x) 1 0) g gs
 
 may-cons : (mask : ℕ) (g : Glyph) (gs : Glyphs) → count_by (may_be_repha mask) (g ∷ gs)
     ≡ cond (may_be_repha mask g) 1 0 + count_by (may_be_repha mask) gs
@@ -133,7 +132,7 @@ may-next mask g gs later (inr (bits, inr on)) =
     let c = repha-cons g (rphf_recorded mask gs) in
     let m = may-one mask g bits in
     let n = may-cons mask g gs in
-    let o = one-at-most (has_category 18 g) in
+    let o = one-at-most (is_in_category 18 g) in
     omega (arith, e, c, m, n, later, o)
 
 recorded-may : (mask : ℕ) (gs : Glyphs) → repha_count (rphf_recorded mask gs) ≤ count_by (may_be_repha mask) gs
@@ -182,14 +181,14 @@ recorded-bytes mask [] = tt
 recorded-bytes mask (g ∷ gs) = bytes-next mask g gs (recorded-bytes mask gs) (shaped mask g gs)
 
 pieces-recorded : (mask : ℕ) (ps : List Glyphs) → AllAlone mask ps
-    → AtMost 1 (has_category 18) (map (rphf_recorded mask) ps)
+    → AtMost 1 (is_in_category 18) (map (rphf_recorded mask) ps)
 pieces-recorded mask [] alone = tt
 pieces-recorded mask (p ∷ ps) alone = (recorded-few mask p alone.0, pieces-recorded mask ps alone.1)
 
 -- behind it no syllable has two
 pub recorded-at-most-one : (mask : ℕ) (gs : Glyphs) → AllAlone mask (syllables gs)
-    → AtMost 1 (has_category 18) (syllables (flat_map (rphf_recorded mask) (syllables gs)))
+    → AtMost 1 (is_in_category 18) (syllables (flat_map (rphf_recorded mask) (syllables gs)))
 recorded-at-most-one mask gs alone =
-    subst (AtMost 1 (has_category 18))
+    subst (AtMost 1 (is_in_category 18))
     (sym (syllables-of-each SameByte (λ g h e. e) (rphf_recorded mask) (recorded-bytes mask) gs))
     (pieces-recorded mask (syllables gs) alone)

@@ -10,23 +10,21 @@ use Rattle.std.proofs.lemmas.List.Sums.{sum_by-cons}
 use Rattle.std.proofs.lemmas.Nat.{and_assoc, and_comm, and_or_apart}
 use Rattle.shapers_base.specs.Map.{Map}
 use Rattle.shapers_base.specs.Masks.{has_bits}
-use Rattle.shapers_base.specs.declared.plan.PlanData.{PlanData}
 use Rattle.shapers_base.specs.declared.plan.arabic.arabic_shape_plan_t.{arabic_shape_plan_t}
 use Rattle.shapers_base.specs.declared.plan.breaks.BreakFlags.{BreakFlags}
 use Rattle.shapers_base.specs.declared.plan.hb_ot_shape_plan_t.{hb_ot_shape_plan_t}
-use Rattle.shapers_buffer.specs.Glyph.{default_glyph}
 use Rattle.shapers_buffer.specs.GlyphFlags.{flagged, with_bits, with_bits_off}
 use Rattle.shapers_buffer.specs.Glyphs.{Glyph, Glyphs}
-use Rattle.shapers_buffer.specs.Syllables.{in_syllable, span_bytes, syllables, with_bytes}
+use Rattle.shapers_buffer.specs.Syllables.{span_bytes, syllables, with_bytes}
 use Rattle.shapers_buffer.specs.declared.buffer.syllables.Span.{Span}
 use Rattle.shapers_spans.specs.Cuts.{AreSpansOf}
 use Rattle.shapers_spans.specs.Universal.{universal_grammar}
 use Rattle.shapers_syllabic.specs.Syllabic.{unsafe_spans, unsafe_syllables}
 use Rattle.shapers_syllabic.proofs.CircleLaws.{joined-syllables}
 use Rattle.shapers_universal.specs.PlanData.{arabic_of, rphf_of}
-use Rattle.shapers_universal.specs.UniversalSyllables.{all_forms, first_joins, form_masks, formed, forms_flagged, in_forms, mask_between, may_join, rphf_len, with_form_masks, with_forms_for, with_instead, with_rphf, with_syllable_masks}
+use Rattle.shapers_universal.specs.UniversalSyllables.{all_forms, first_joins, form_masks, formed, forms_flagged, in_forms, mask_between, may_join, rphf_len, with_forms_for, with_instead, with_rphf, with_syllable_masks}
 use Rattle.shapers_universal.proofs.TornPairs.{map-forms_flagged}
-use Rattle.shapers_found_laws.specs.AddsNone.{has_category}
+use Rattle.shapers_found_laws.specs.AddsNone.{is_in_category}
 use Rattle.shapers_found_laws.specs.FoundSyllables.{in_spans}
 use Rattle.shapers_found_laws.specs.FoundUniversal.{RephaAlone, RphfApart, may_be_repha}
 use Rattle.shapers_found_laws.proofs.AddedNone.{AtMost, none-at-most}
@@ -54,7 +52,7 @@ near-bits t g h near has = by (bit_and g.mask t == 0) refl
         let was : not (0 == 0) ≡ true = subst (λ n. not (n == 0) ≡ true) gone has in
         absurd (false≢true was)
 
-near-category : (t : ℕ) (g h : Glyph) → Near t g h → has_category 18 h ≡ true → has_category 18 g ≡ true
+near-category : (t : ℕ) (g h : Glyph) → Near t g h → is_in_category 18 h ≡ true → is_in_category 18 g ≡ true
 near-category t g h near is = ap (λ c. c == 18) (sym near.1.0) ∙ is
 
 either-back : (a b c d : Bool) → (a ≡ true → c ≡ true) → (b ≡ true → d ≡ true) → (a || b) ≡ true → (c || d) ≡ true
@@ -69,7 +67,7 @@ near-may t g h near is =
 
 near-alone : (t : ℕ) (p q : Glyphs) → AllZip (Near t) p q → RephaAlone t p → RephaAlone t q
 near-alone t p q all alone =
-    alone-less t p q (count-zip (has_category 18) (Near t) (near-category t) p q all)
+    alone-less t p q (count-zip (is_in_category 18) (Near t) (near-category t) p q all)
     (count-zip (may_be_repha t) (Near t) (near-may t) p q all) alone
 
 pub near-all : (t : ℕ) (gs hs : Glyphs) → AllZip (Near t) gs hs → AllAlone t (syllables gs) → AllAlone t (syllables hs)
@@ -85,7 +83,7 @@ Ready t p = HeadAlone 18 p × (count_by (has_bits t) p ≤ 0)
 
 near-ready : (t : ℕ) (p q : Glyphs) → AllZip (Near t) p q → Ready t p → Ready t q
 near-ready t p q all ready =
-    let a = count-zip (has_category 18) (Near t) (near-category t) (drop 1 p) (drop 1 q) (zip-tails (Near t) p q all) in
+    let a = count-zip (is_in_category 18) (Near t) (near-category t) (drop 1 p) (drop 1 q) (zip-tails (Near t) p q all) in
     let b = count-zip (has_bits t) (Near t) (near-bits t) p q all in
     let x = ready.0 in
     let y = ready.1 in
@@ -137,7 +135,7 @@ masked-same t gs =
     (zip-joined Same (take n gs) (map (with_bits t) (take n gs)) (drop n gs) (drop n gs)
     (map-zip Same (with_bits t) (λ g. (refl, refl)) (take n gs)) (same-zip Same (λ g. (refl, refl)) (drop n gs)))
 
-same-category : (g h : Glyph) → Same g h → has_category 18 h ≡ true → has_category 18 g ≡ true
+same-category : (g h : Glyph) → Same g h → is_in_category 18 h ≡ true → is_in_category 18 g ≡ true
 same-category g h same is = ap (λ c. c == 18) (sym same.1) ∙ is
 
 -- a glyph may be a repha only if it is one, or has a bit of the mask
@@ -147,11 +145,11 @@ may-parts false true = omega arith
 may-parts false false = omega arith
 
 may-few : (t : ℕ) (gs : Glyphs) → count_by (may_be_repha t) gs
-    ≤ count_by (has_category 18) gs + count_by (has_bits t) gs
+    ≤ count_by (is_in_category 18) gs + count_by (has_bits t) gs
 may-few t [] = omega arith
 may-few t (g ∷ gs) =
     let a = sum_by-cons (λ (x : Glyph). cond (may_be_repha t x) 1 0) g gs in
-    let b = sum_by-cons (λ (x : Glyph). cond (has_category 18 x) 1 0) g gs in
+    let b = sum_by-cons (λ (x : Glyph). cond (is_in_category 18 x) 1 0) g gs in
     let c = sum_by-cons (λ (x : Glyph). cond (has_bits t x) 1 0) g gs in
     let d = may-parts (g.category == 18) (has_bits t g) in
     let e = may-few t gs in
@@ -177,11 +175,11 @@ masked-alone t (g ∷ gs) ready = by (g.category == 18) refl
         let b = one-most (may_be_repha t (with_bits t g)) in
         let c = may-few t gs in
         let d = sum_by-cons (λ (x : Glyph). cond (has_bits t x) 1 0) g gs in
-        let x : count_by (has_category 18) gs ≡ 0 = ready.0 in
+        let x : count_by (is_in_category 18) gs ≡ 0 = ready.0 in
         let y = ready.1 in
         inr (omega (arith, a, b, c, d, x, y))
     by false is =
-        let a = sum_by-cons (λ (x : Glyph). cond (has_category 18 x) 1 0) g gs in
+        let a = sum_by-cons (λ (x : Glyph). cond (is_in_category 18 x) 1 0) g gs in
         let b : one_if (g.category == 18) ≡ 0 = ap one_if is in
         let n = min 3 (length (g ∷ gs)) in
         let all : AllZip Same (g ∷ gs) (masked n) =
@@ -189,8 +187,8 @@ masked-alone t (g ∷ gs) ready = by (g.category == 18) refl
         (zip-joined Same (take n (g ∷ gs)) (map (with_bits t) (take n (g ∷ gs))) (drop n (g ∷ gs)) (drop n (g ∷ gs))
         (map-zip Same (with_bits t) (λ h. (refl, refl)) (take n (g ∷ gs)))
         (same-zip Same (λ h. (refl, refl)) (drop n (g ∷ gs)))) in
-        let c = count-zip (has_category 18) Same same-category (g ∷ gs) (masked n) all in
-        let x : count_by (has_category 18) gs ≡ 0 = ready.0 in
+        let c = count-zip (is_in_category 18) Same same-category (g ∷ gs) (masked n) all in
+        let x : count_by (is_in_category 18) gs ≡ 0 = ready.0 in
         inl (omega (arith, a, b, c, x))
 
 pieces-masked : (t : ℕ) (ps : List Glyphs) → AllByRecursion (Ready t) ps → AllAlone t (map (with_rphf t) ps)

@@ -21,8 +21,8 @@ LookupsAddNone test substituted list =
     list
 
 -- whether a glyph has this category, and whether its syllable is of a kind above the last known
-abbrev pub has_category : ℕ → Glyph → Bool
-has_category k g = g.category == k
+abbrev pub is_in_category : ℕ → Glyph → Bool
+is_in_category k g = g.category == k
 
 abbrev pub is_unknown : ℕ → Glyph → Bool
 is_unknown last g = nat_lt last (kind_of g.syllable)

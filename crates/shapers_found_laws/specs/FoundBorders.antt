@@ -23,8 +23,8 @@ IsOneOf categories glyph = list_any (λ c. c == glyph.category) categories ≡ t
 abbrev pub BeginsGrapheme : Glyph → Type 0
 BeginsGrapheme glyph = is_continuation glyph.unicode_props ≡ false
 
--- Each syllable that a grammar finds, if it is of a kind up to this one, opens with a glyph of one of
--- these categories.
+-- Each syllable that a grammar finds, if it is of a kind up to this one, opens with a glyph of one
+-- of these categories.
 abbrev pub FoundOpensWith : Grammar → ℕ → List ℕ → Type 0
 FoundOpensWith g last categories = (gs : Glyphs) (spans : List Span) → AreSpansOf g gs spans →
     EachOpens (λ span glyph. span.kind ≤ last → IsOneOf categories glyph) spans gs
@@ -39,7 +39,8 @@ SharesInGraphemes gs = (p : ℕ) → 0 < p → p < length gs →
 -- those that open syllables of other kinds: each border of found syllables is one of clusters.
 abbrev pub FoundBordersPart : Grammar → ℕ → List ℕ → Type 0
 FoundBordersPart g last categories = (gs : Glyphs) (spans : List Span) → AreSpansOf g gs spans →
-    SharesInGraphemes gs → AllByRecursion (λ glyph. IsOneOf categories glyph → BeginsGrapheme glyph) gs →
+    SharesInGraphemes gs →
+    AllByRecursion (λ glyph. IsOneOf categories glyph → BeginsGrapheme glyph) gs →
     EachOpens (λ span glyph. last < span.kind → BeginsGrapheme glyph) spans gs →
     SpansSeparateClusters spans gs
 

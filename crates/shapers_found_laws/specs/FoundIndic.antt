@@ -17,7 +17,7 @@ use Rattle.shapers_plan.specs.declared.ot_map.lookups.Stage.{Stage}
 use Rattle.shapers_plan.specs.declared.ot_map.lookups.StageLookup.{StageLookup}
 use Rattle.shapers_pipeline.specs.Lookups.{LookupRefusals, lookups_of_stage}
 use Rattle.shapers_pipeline.specs.Stages.{StageRun, StagesStopped, Substitution, stage_looked_up}
-use Rattle.shapers_found_laws.specs.AddsNone.{LookupsAddNone, has_category, is_unknown}
+use Rattle.shapers_found_laws.specs.AddsNone.{LookupsAddNone, is_in_category, is_unknown}
 
 -- whether a pause refuses a text with a syllable of unknown kind, and whether a stage ends with one
 -- that does
@@ -38,7 +38,7 @@ pub record AreIndicStages (r : Substitution) (first second : Stage) (behind : Li
   pub set_up : first.pause ≡ Some SetupSyllablesIndic
   pub reordered : second.pause ≡ Some InitialReordering
   pub others : list_any ends_asking behind ≡ false
-  pub rephas : LookupsAddNone (has_category 14) r.substituted (lookups_of_stage second r.list)
+  pub rephas : LookupsAddNone (is_in_category 14) r.substituted (lookups_of_stage second r.list)
   pub kinds : LookupsAddNone (is_unknown 5) r.substituted (lookups_of_stage second r.list)
 
 -- No syllable opens with two rephas where the initial reordering opens circles behind these.

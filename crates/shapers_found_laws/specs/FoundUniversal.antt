@@ -15,7 +15,7 @@ use Rattle.shapers_plan.specs.declared.ot_map.lookups.Stage.{Stage}
 use Rattle.shapers_pipeline.specs.ClusterLaws.{AtPauses, PauseSorts}
 use Rattle.shapers_pipeline.specs.Lookups.{lookups_of_stage}
 use Rattle.shapers_pipeline.specs.Stages.{StagesRun, Substitution, stage_looked_up}
-use Rattle.shapers_found_laws.specs.AddsNone.{LookupsAddNone, has_category}
+use Rattle.shapers_found_laws.specs.AddsNone.{LookupsAddNone, is_in_category}
 use Rattle.shapers_found_laws.specs.FoundPauses.{ends_reordering}
 
 -- whether a glyph is a repha, of category R, or may be recorded as one: it has a bit of the mask
@@ -25,10 +25,10 @@ may_be_repha mask g = (g.category == 18) || has_bits mask g
 -- A syllable has no repha, or no other glyph that may be recorded as one.
 abbrev pub RephaAlone : ℕ → Glyphs → Type 0
 RephaAlone mask syllable =
-    (count_by (has_category 18) syllable ≡ 0) ⊎ (count_by (may_be_repha mask) syllable ≤ 1)
+    (count_by (is_in_category 18) syllable ≡ 0) ⊎ (count_by (may_be_repha mask) syllable ≤ 1)
 
--- The mask of rphf is its own: it has neither of the flags that a set-up gives, nor a bit of a form's
--- mask; and no glyph has a bit of it yet.
+-- The mask of rphf is its own: it has neither of the flags that a set-up gives, nor a bit of a
+-- form's mask; and no glyph has a bit of it yet.
 pub record RphfApart (plan : hb_ot_shape_plan_t) (gs : Glyphs) : Type 0 where
   pub unflagged : bit_and 3 (rphf_of plan.plan_data) ≡ 0
   pub formless : (before behind : Bool) →
@@ -64,7 +64,7 @@ pub record AreUniversalStages (r : Substitution) (s : UniversalStages) : Type 0 
   pub reordered : s.reordered.pause ≡ Some ReorderUse
   pub others : list_any ends_reordering s.behind ≡ false
   pub rephas : AllByRecursion
-      (λ stage. LookupsAddNone (has_category 18) r.substituted (lookups_of_stage stage r.list))
+      (λ stage. LookupsAddNone (is_in_category 18) r.substituted (lookups_of_stage stage r.list))
       (s.cleared ∷ s.recorded ∷ s.cleared_again ∷ s.pref ∷ s.reordered ∷ [])
   pub masked : AllByRecursion
       (λ stage. LookupsAddNone (may_be_repha (rphf_of r.plan.plan_data)) r.substituted
