@@ -1,8 +1,11 @@
 //! What HarfRust has otherwise than rustybuzz: its types, its font, its cluster levels, and that syllables are found here.
 
+use core::cell::{Cell, RefCell, RefMut};
+
 use sengadlit::font::{Wide, WideGlyphs};
+use sengadlit::ot_shape_normalize::NormalizeFont;
 use sengadlit::spans::setup_syllables_found;
-use sengadlit::{Buffer, BufferClusterLevel, Pause, Plan, Shaper, Tag};
+use sengadlit::{Buffer, BufferClusterLevel, Font, Pause, Plan, Shaper, Tag};
 
 use crate::hb::buffer::*;
 use crate::hb::font_funcs::FontFuncsDispatch;
@@ -15,7 +18,7 @@ mod text;
 
 pub use crate::hb::buffer::GlyphInfo as Info;
 pub use crate::hb::unicode::Codepoint;
-pub use text::{data_without_shaper, may_turn, prepare, Room};
+pub use text::{data_without_shaper, prepare};
 
 // ---- Fonts ----
 
@@ -57,6 +60,107 @@ impl WideGlyphs for FontFuncsDispatch<'_, '_> {
     // (`shape` takes the text by value, so that no caller sees what a panic leaves of it)
     fn may_panic(&self) -> bool {
         false
+    }
+}
+
+/// The number that stands for each that doesn't fit 16 bits, until a text is normalized.
+const BEYOND: u16 = 0xFFFF;
+
+/// A glyph whose number is below that.
+pub fn narrow(number: u32) -> Option<sengadlit::GlyphId> {
+    u16::try_from(number).ok().filter(|number| *number != BEYOND).map(sengadlit::GlyphId)
+}
+
+/// The host's font, of which normalization asks glyphs alone. A variant whose number doesn't fit 16 bits is none.
+pub struct Numbers<'f, 'a, 'u> {
+    font: RefCell<FontRef<'f, 'a, 'u>>,
+    has_beyond: Cell<bool>,
+    /// Some of the characters that the font was asked for, each with its glyph's number: most are asked for more than once.
+    found: [Cell<[u32; 2]>; 64],
+}
+
+impl<'f, 'a, 'u> Numbers<'f, 'a, 'u> {
+    pub fn of(font: FontRef<'f, 'a, 'u>) -> Self {
+        // (no character has the number of an empty place)
+        const EMPTY: Cell<[u32; 2]> = Cell::new([u32::MAX; 2]);
+        Numbers { font: RefCell::new(font), has_beyond: Cell::new(false), found: [EMPTY; 64] }
+    }
+
+    /// The font itself.
+    pub fn host(&self) -> RefMut<'_, FontFuncsDispatch<'a, 'u>> {
+        RefMut::map(self.font.borrow_mut(), |font| &mut **font)
+    }
+
+    /// The number of a character's glyph.
+    #[inline(always)]
+    fn find(&self, c: u32) -> Option<u32> {
+        match self.found[place_of(c)].get() {
+            [of, number] if of == c => Some(number),
+            _ => self.ask(c),
+        }
+    }
+
+    /// The same by the font itself, which is asked again for what it lacks.
+    #[inline(never)]
+    fn ask(&self, c: u32) -> Option<u32> {
+        let number = self.host().nominal_glyph(c)?.to_u32();
+        self.found[place_of(c)].set([c, number]);
+        Some(number)
+    }
+
+    /// Whether normalization was given a number that stands for another.
+    pub fn has_beyond(&self) -> bool {
+        self.has_beyond.get()
+    }
+
+    /// The number of a character's glyph, where normalization wrote this one. A space or a hyphen that the font lacks is drawn
+    /// as the common one.
+    pub fn whole(&self, c: u32, number: u16) -> u32 {
+        if number != BEYOND {
+            return number.into();
+        }
+        let drawn = if c == 0x2011 { 0x2010 } else { 0x20 };
+        self.find(c).or_else(|| self.find(drawn)).unwrap_or(0)
+    }
+}
+
+/// The place of a character among 64. (Syllables of Hangul have numbers that are alike in their last bits.)
+#[inline(always)]
+const fn place_of(c: u32) -> usize {
+    (c.wrapping_mul(0x9E37_79B1) >> 26) as usize
+}
+
+impl Font for Numbers<'_, '_, '_> {
+    #[inline]
+    fn nominal_glyph(&self, c: u32) -> Option<sengadlit::GlyphId> {
+        let number = self.find(c)?;
+        Some(narrow(number).unwrap_or_else(|| {
+            self.has_beyond.set(true);
+            sengadlit::GlyphId(BEYOND)
+        }))
+    }
+
+    #[inline]
+    fn has_glyph(&self, c: u32) -> bool {
+        self.find(c).is_some()
+    }
+
+    fn glyph_h_advance(&self, _: sengadlit::GlyphId) -> i32 {
+        0
+    }
+
+    fn would_apply(&self, _: u16, _: &[sengadlit::GlyphId], _: bool) -> bool {
+        false
+    }
+
+    fn has_feature(&self, _: Tag) -> bool {
+        false
+    }
+}
+
+impl NormalizeFont for Numbers<'_, '_, '_> {
+    fn variation_glyph(&self, c: u32, selector: u32) -> Option<sengadlit::GlyphId> {
+        narrow(self.host().variant_glyph(c, selector)?.to_u32())
     }
 }
 
@@ -151,6 +255,14 @@ pub fn cluster_level(level: hb_buffer_cluster_level_t, script: Option<Script>) -
         HB_BUFFER_CLUSTER_LEVEL_MONOTONE_CHARACTERS => BufferClusterLevel::MonotoneCharacters,
         HB_BUFFER_CLUSTER_LEVEL_GRAPHEMES if !is_hangul && !is_thai => BufferClusterLevel::Characters,
         _ => BufferClusterLevel::MonotoneGraphemes,
+    }
+}
+
+/// The level at which a text's graphemes form its clusters.
+pub fn grapheme_level(level: hb_buffer_cluster_level_t) -> BufferClusterLevel {
+    match level {
+        HB_BUFFER_CLUSTER_LEVEL_GRAPHEMES => BufferClusterLevel::MonotoneGraphemes,
+        _ => cluster_level(level, None),
     }
 }
 

@@ -111,7 +111,7 @@ fn create_data<const S: usize>(from: &hb_ot_shape_plan_t) -> Box<dyn Any + Send 
     plan.base_search = BaseSearch::AllConsonants;
     plan.zero_context = ZeroContext::NewSpec;
     plan.break_flags = BREAK_FLAGS;
-    Box::new(ShaperPlan { shaper: Some(shaper), plan: shaper.with_data(plan), may_turn: parts::may_turn(from) })
+    Box::new(ShaperPlan { shaper: Some(shaper), plan: shaper.with_data(plan) })
 }
 
 /// What a plan keeps of this type.
@@ -120,11 +120,10 @@ pub fn kept<T: 'static>(data: &(dyn Any + Send + Sync)) -> Option<&T> {
     data.downcast_ref()
 }
 
-/// What a plan keeps: its shaper, what the hooks read, and whether the host's texts may be turned.
+/// What a plan keeps: its shaper, and what the hooks read.
 pub struct ShaperPlan {
     shaper: Option<Shaper>,
     plan: Plan,
-    may_turn: bool,
 }
 
 fn plan_of(plan: &hb_ot_shape_plan_t) -> &Plan {
@@ -202,20 +201,13 @@ fn host_positions_of(positions: Vec<Position>) -> Vec<GlyphPosition> {
 
 // ---- The text that hooks work on ----
 
-/// What stays with the host's buffer; a text that no hook works on needs none of it.
+/// The text of the hooks, which has the host's glyphs while a hook works on them. It stays with the host's buffer, and is made
+/// when a first hook works.
 #[derive(Default)]
 pub struct Work {
-    kept: Option<Box<Kept>>,
+    text: Option<Box<Buffer>>,
     /// Whether the text has the settings of the host's.
     has_settings: bool,
-}
-
-/// The text of the hooks, which has the host's glyphs while a hook works on them, and room for `parts`.
-#[derive(Default)]
-struct Kept {
-    text: Buffer,
-    #[allow(dead_code)]
-    room: parts::Room,
 }
 
 impl Work {
@@ -226,13 +218,8 @@ impl Work {
     }
 
     #[inline]
-    fn kept(&mut self) -> &mut Kept {
-        self.kept.get_or_insert_with(Box::default)
-    }
-
-    #[inline]
     fn text(&mut self) -> &mut Buffer {
-        &mut self.kept().text
+        self.text.get_or_insert_with(Box::default)
     }
 }
 

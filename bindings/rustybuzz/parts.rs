@@ -13,7 +13,6 @@ use crate::hb::buffer::*;
 use crate::hb::face::hb_font_t;
 use crate::hb::ot_layout::*;
 use crate::hb::ot_layout_gsubgpos::{WouldApply, WouldApplyContext};
-use crate::hb::ot_shape_plan::hb_ot_shape_plan_t;
 use crate::hb::unicode::{CharExt, GeneralCategoryExt};
 use crate::hb::{hb_tag_t, Script};
 use crate::BufferFlags;
@@ -21,14 +20,6 @@ use crate::BufferFlags;
 pub use crate::hb::buffer::hb_glyph_info_t as Info;
 
 pub type Codepoint = char;
-
-/// No room is needed.
-pub type Room = ();
-
-/// A text is turned by rustybuzz itself.
-pub fn may_turn(_: &hb_ot_shape_plan_t) -> bool {
-    false
-}
 
 // ---- Fonts ----
 
