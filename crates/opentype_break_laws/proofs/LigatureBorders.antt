@@ -154,7 +154,7 @@ abbrev pub last_cluster_of : Glyph → Glyphs → ℕ
 last_cluster_of g [] = g.cluster
 last_cluster_of g (h ∷ hs) = last_cluster_of h hs
 
-clusters_at : (gs : Glyphs) (i : ℕ) → slice_index (clusters gs) i ≡ (glyph_at gs i).cluster
+pub clusters_at : (gs : Glyphs) (i : ℕ) → slice_index (clusters gs) i ≡ (glyph_at gs i).cluster
 clusters_at [] i = refl
 clusters_at (g ∷ gs) zero = refl
 clusters_at (g ∷ gs) (suc i) = clusters_at gs i

@@ -1,6 +1,5 @@
 -- The font of one sequence meets the laws of a font's lookups.
-use Rattle.std.proofs.Common.{ℕ, zero, suc, ◌*◌, ◌%◌, ◌<◌, ◌≤◌, ◌≡◌, ◌==◌, inr, nat_lt, bit_and, if◌then◌else◌, Bool, true, false, List, [], ◌∷◌, length, Option, None, Some, refl, arith}
-use Rattle.std.specs.List.{AllByRecursion}
+use Rattle.std.proofs.Common.{ℕ, zero, suc, ◌*◌, ◌%◌, ◌<◌, ◌≤◌, ◌≡◌, ◌==◌, inl, inr, nat_lt, bit_and, if◌then◌else◌, Bool, true, false, List, [], ◌∷◌, length, Option, None, Some, refl, arith}
 use Rattle.std.specs.Option.{option_map_or}
 use Rattle.std.proofs.lemmas.Bool.Decides.{nat_tests}
 use Rattle.shapers_buffer.specs.Buffer.{Buffer}
@@ -13,7 +12,7 @@ use Rattle.opentype_gsub.specs.Edits.{count_in}
 use Rattle.opentype_break_laws.specs.FontPieces.{FontLookupsLeavePieces}
 use Rattle.opentype_break_laws.specs.OneAsTwo.{IsMadeInPieces, one_as_two}
 use Rattle.opentype_break_laws.specs.TwoSingles.{first_lookup}
-use Rattle.opentype_break_laws.specs.Sequences.{PutsSequences, TakesSequences, glyphs_of_all, glyphs_of_one, sequence_for}
+use Rattle.opentype_break_laws.specs.Sequences.{FirstStays, PutsSequences, StayOrGo, TakesSequences, glyphs_of_all, glyphs_of_one, sequence_for}
 
 puts_one : PutsSequences one_as_two first_lookup
 puts_one = record { some = omega arith; types = λ i less. refl; flagless = refl }
@@ -44,21 +43,25 @@ of_one : (g : Glyph) → IsOneOrTwo (glyphs_of_one 256 table g)
 of_one g = if_none (bit_and g.mask 256 == 0) (option_map_or count_in (sequence_for table (g.glyph_id % 65536)) 1)
     (by_number (g.glyph_id % 65536))
 
-of_all : (gs : Glyphs) → AllByRecursion (λ g. 0 < glyphs_of_one 256 table g) gs × (glyphs_of_all 256 table gs ≤ 2 * length gs)
-of_all [] = (tt, omega arith)
-of_all (g ∷ gs) =
-    let here = of_one g in
-    let rest = of_all gs in
-    ((here.0, rest.0), omega (arith, here.1, rest.1))
+stay_behind : (h : Glyph) (gs : Glyphs) → StayOrGo (glyphs_of_one 256 table) h gs
+stay_behind h [] = tt
+stay_behind h (g ∷ gs) = (inl (of_one g).0, stay_behind g gs)
+
+all_stay : (gs : Glyphs) → FirstStays (glyphs_of_one 256 table) gs
+all_stay [] = tt
+all_stay (g ∷ gs) = ((of_one g).0, stay_behind g gs)
+
+of_all : (gs : Glyphs) → glyphs_of_all 256 table gs ≤ 2 * length gs
+of_all [] = omega arith
+of_all (g ∷ gs) = omega (arith, (of_one g).1, of_all gs)
 
 pub made_in_pieces : FontLookupsLeavePieces → (old new : Buffer)
     → new ≡ substituted_by [] one_as_two first_lookup old → IsMadeInPieces old new.glyphs
 made_in_pieces law old new is room numbered compares =
-    let all = of_all old.glyphs in
     let takes : TakesSequences old one_as_two first_lookup old = record {
-      some = all.0;
+      stays = all_stay old.glyphs;
       size = refl;
-      room = omega (arith, all.1, room);
+      room = omega (arith, of_all old.glyphs, room);
     } in
     let leaves = law numbered old [] one_as_two first_lookup old (inr (inr (inr (record {
       puts = puts_one;

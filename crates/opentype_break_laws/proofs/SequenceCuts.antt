@@ -1,19 +1,21 @@
 -- The clear places of a text in which glyphs stand for each glyph of another one.
-use Rattle.std.proofs.Common.{ℕ, ◌-◌, ◌<◌, ◌≤◌, ◌≡◌, ◌≢◌, ◌==◌, ◌&&◌, ◌||◌, inl, inr, max, Bool, true, false, [], ◌∷◌, ◌++◌, length, slice_index, refl, sym, ap, subst, ◌∙◌, arith, append_assoc, length-append}
+use Rattle.std.proofs.Common.{ℕ, ◌-◌, ◌<◌, ◌≡◌, ◌≢◌, ◌==◌, ◌&&◌, ◌||◌, ◌⊎◌, inl, inr, max, Bool, true, false, [], ◌∷◌, ◌++◌, length, slice_index, refl, sym, ap, subst, ◌∙◌, arith, append_assoc, length-append}
 use Rattle.std.specs.List.{AllByRecursion, list_any}
+use Rattle.std.proofs.lemmas.Bool.{false≢true}
 use Rattle.shapers_buffer.specs.Clusters.{first_cluster}
 use Rattle.shapers_buffer.specs.Glyph.{clusters}
 use Rattle.shapers_buffer.specs.Glyphs.{Glyph, Glyphs}
 use Rattle.shapers_clusters.specs.Breaks.{IsClear, greater, is_unsafe}
 use Rattle.shapers_clusters.specs.Flags.{bit_at}
 use Rattle.shapers_break_laws.specs.Pieces.{CutWhereClear}
+use Rattle.opentype_break_laws.specs.Sequences.{FirstStays, GoesBehind, StayOrGo}
 use Rattle.opentype_break_laws.proofs.LigatureModel.{all_back, split}
 use Rattle.opentype_break_laws.proofs.LigatureBorders.{cluster_behind, cluster_in_front, last_cluster_of}
 use Rattle.opentype_break_laws.proofs.SequenceViews.{IsSpread, StandsFor, spread_out}
 
 -- ---- THE CLUSTERS that meet at a place
 
-abbrev ending : Glyphs → ℕ
+abbrev pub ending : Glyphs → ℕ
 ending [] = 0
 ending (g ∷ gs) = last_cluster_of g gs
 
@@ -22,13 +24,13 @@ ends_behind [] z zs = refl
 ends_behind (x ∷ []) z zs = refl
 ends_behind (x ∷ y ∷ xs) z zs = ends_behind (y ∷ xs) z zs
 
-ends_with : (xs ys : Glyphs) → 0 < length ys → ending (xs ++ ys) ≡ ending ys
+pub ends_with : (xs ys : Glyphs) → 0 < length ys → ending (xs ++ ys) ≡ ending ys
 ends_with xs [] some = absurd (omega (arith, some))
 ends_with xs (y ∷ ys) some = ends_behind xs y ys
 
-before_place : (front back : Glyphs) → 0 < length front → slice_index (clusters (front ++ back)) (length front - 1) ≡ ending front
-before_place [] back some = absurd (omega (arith, some))
-before_place (g ∷ gs) back some =
+pub ended_before : (front back : Glyphs) → 0 < length front → slice_index (clusters (front ++ back)) (length front - 1) ≡ ending front
+ended_before [] back some = absurd (omega (arith, some))
+ended_before (g ∷ gs) back some =
     let n : length (g ∷ gs) - 1 ≡ length gs = omega arith in
     ap (slice_index (clusters (g ∷ (gs ++ back)))) n ∙ cluster_in_front g gs back
 
@@ -38,7 +40,7 @@ behind_place front (h ∷ hs) some = cluster_behind front h hs
 
 -- ---- GLYPHS THAT STAND FOR ONE are of its cluster
 
-ends_in : (g : Glyph) (xs : Glyphs) → 0 < length xs → AllByRecursion (StandsFor g) xs → ending xs ≡ g.cluster
+pub ends_in : (g : Glyph) (xs : Glyphs) → 0 < length xs → AllByRecursion (StandsFor g) xs → ending xs ≡ g.cluster
 ends_in g [] some all = absurd (omega (arith, some))
 ends_in g (x ∷ []) some all = all.0.cluster
 ends_in g (x ∷ y ∷ xs) some all = ends_in g (y ∷ xs) (omega arith) all.1
@@ -47,74 +49,139 @@ begins_in_one : (g : Glyph) (xs ys : Glyphs) → 0 < length xs → AllByRecursio
 begins_in_one g [] ys some all = absurd (omega (arith, some))
 begins_in_one g (x ∷ xs) ys some all = all.0.cluster
 
-pub spread_some : (f : Glyph → Glyphs) → IsSpread f → (gs : Glyphs) → length gs ≤ length (spread_out f gs)
-spread_some f is [] = omega arith
-spread_some f is (g ∷ gs) = omega (arith, is.some g, spread_some f is gs, length-append (f g) (spread_out f gs))
+-- the last cluster of a text, or that of a glyph before it
+abbrev ending_behind : ℕ → Glyphs → ℕ
+ending_behind c [] = c
+ending_behind c (g ∷ gs) = last_cluster_of g gs
 
 all_nil : (P : Glyph → Type 0) (xs : Glyphs) → AllByRecursion P xs → AllByRecursion P (xs ++ [])
 all_nil P [] all = tt
 all_nil P (x ∷ xs) all = (all.0, all_nil P xs all.1)
 
-spread_ends : (f : Glyph → Glyphs) → IsSpread f → (gs : Glyphs) → ending (spread_out f gs) ≡ ending gs
-spread_ends f is [] = refl
-spread_ends f is (g ∷ []) =
-    let some : 0 < length (f g ++ []) = omega (arith, is.some g, length-append (f g) []) in
-    ends_in g (f g ++ []) some (all_nil (StandsFor g) (f g) (is.each g))
-spread_ends f is (g ∷ h ∷ hs) =
-    ends_with (f g) (spread_out f (h ∷ hs)) (omega (arith, spread_some f is (h ∷ hs))) ∙ spread_ends f is (h ∷ hs)
+ends_of : (c : ℕ) (g : Glyph) (xs ys : Glyphs) → AllByRecursion (StandsFor g) xs → ((0 < length xs) ⊎ (g.cluster ≡ c))
+    → ending_behind c (xs ++ ys) ≡ ending_behind g.cluster ys
+ends_of c g [] [] all (inl stays) = absurd (omega (arith, stays))
+ends_of c g [] [] all (inr goes) = sym goes
+ends_of c g [] (y ∷ ys) all stays = refl
+ends_of c g (x ∷ xs) [] all stays = ends_in g ((x ∷ xs) ++ []) (omega arith) (all_nil (StandsFor g) (x ∷ xs) all)
+ends_of c g (x ∷ xs) (y ∷ ys) all stays = ends_behind (x ∷ xs) y ys
 
-spread_begins : (f : Glyph → Glyphs) → IsSpread f → (gs : Glyphs) → first_cluster (spread_out f gs) ≡ first_cluster gs
-spread_begins f is [] = refl
-spread_begins f is (g ∷ gs) = begins_in_one g (f g) (spread_out f gs) (is.some g) (is.each g)
+or_cluster : (n : ℕ) (h g : Glyph) → ((0 < n) ⊎ GoesBehind h g) → ((0 < n) ⊎ (g.cluster ≡ h.cluster))
+or_cluster n h g (inl stays) = inl stays
+or_cluster n h g (inr goes) = inr goes.cluster
+
+behind_first : (g : Glyph) (gs : Glyphs) → ending_behind g.cluster gs ≡ last_cluster_of g gs
+behind_first g [] = refl
+behind_first g (h ∷ hs) = refl
+
+spread_ends : (f : Glyph → Glyphs) → IsSpread f → (h : Glyph) (gs : Glyphs) → StayOrGo (λ g. length (f g)) h gs
+    → ending_behind h.cluster (spread_out f gs) ≡ ending_behind h.cluster gs
+spread_ends f is h [] stays = refl
+spread_ends f is h (g ∷ gs) stays =
+    ends_of h.cluster g (f g) (spread_out f gs) (is.each g) (or_cluster (length (f g)) h g stays.0)
+    ∙ spread_ends f is g gs stays.1 ∙ behind_first g gs
+
+as_ending : (c : ℕ) (gs : Glyphs) → 0 < length gs → ending gs ≡ ending_behind c gs
+as_ending c [] some = absurd (omega (arith, some))
+as_ending c (g ∷ gs) some = refl
+
+first_ends : (f : Glyph → Glyphs) → IsSpread f → (gs : Glyphs) → FirstStays (λ g. length (f g)) gs → 0 < length gs
+    → ending (spread_out f gs) ≡ ending gs
+first_ends f is [] stays some = absurd (omega (arith, some))
+first_ends f is (g ∷ gs) stays some =
+    as_ending 0 (f g ++ spread_out f gs) (omega (arith, stays.0, length-append (f g) (spread_out f gs)))
+    ∙ ends_of 0 g (f g) (spread_out f gs) (is.each g) (inl stays.0) ∙ spread_ends f is g gs stays.1 ∙ behind_first g gs
+
+spread_begins : (f : Glyph → Glyphs) → IsSpread f → (gs : Glyphs) → FirstStays (λ g. length (f g)) gs
+    → first_cluster (spread_out f gs) ≡ first_cluster gs
+spread_begins f is [] stays = refl
+spread_begins f is (g ∷ gs) stays = begins_in_one g (f g) (spread_out f gs) stays.0 (is.each g)
 
 -- ---- A CUT of what is made is one of the text
 
-pub record SpreadCut (f : Glyph → Glyphs) (gs front back : Glyphs) : Type 0 where
+pub record SpreadCut (f : Glyph → Glyphs) (h : Glyph) (gs front back : Glyphs) : Type 0 where
   pub before : Glyphs
   pub behind : Glyphs
   pub parts : gs ≡ before ++ behind
   pub first : spread_out f before ≡ front
   pub second : spread_out f behind ≡ back
-
-cut_behind : (f : Glyph → Glyphs) (g : Glyph) (gs front w back : Glyphs) → front ≡ f g ++ w → spread_out f gs ≡ w ++ back
-    → ending front ≢ first_cluster back → (0 < length w → ending w ≢ first_cluster back → SpreadCut f gs w back)
-    → SpreadCut f (g ∷ gs) front back
-cut_behind f g gs front [] back whole rest differ on = record {
-  before = g ∷ [];
-  behind = gs;
-  parts = refl;
-  first = sym whole;
-  second = rest;
-}
-cut_behind f g gs front (z ∷ zs) back whole rest differ on =
-    let it = on (omega arith) (λ same. differ (ap ending whole ∙ ends_behind (f g) z zs ∙ same)) in
-    record {
-      before = g ∷ it.before;
-      behind = it.behind;
-      parts = ap (λ l. g ∷ l) it.parts;
-      first = ap (λ l. f g ++ l) it.first ∙ sym whole;
-      second = it.second;
-    }
+  pub before_stays : StayOrGo (λ g. length (f g)) h before
+  pub behind_stays : FirstStays (λ g. length (f g)) behind
 
 all_in_front : (P : Glyph → Type 0) (xs ys : Glyphs) → AllByRecursion P (xs ++ ys) → AllByRecursion P xs
 all_in_front P [] ys all = tt
 all_in_front P (x ∷ xs) ys all = (all.0, all_in_front P xs ys all.1)
 
-inside : (g : Glyph) (made front w back rest : Glyphs) → AllByRecursion (StandsFor g) made → made ≡ front ++ w → back ≡ w ++ rest
-    → 0 < length front → 0 < length w → ending front ≡ first_cluster back
-inside g made front w back rest all parts is some more =
+inside : (g : Glyph) (c : ℕ) (made front w back rest : Glyphs) → AllByRecursion (StandsFor g) made → made ≡ front ++ w
+    → back ≡ w ++ rest → 0 < length front → 0 < length w → ending_behind c front ≡ first_cluster back
+inside g c made front w back rest all parts is some more =
     let each = subst (AllByRecursion (StandsFor g)) parts all in
-    ends_in g front some (all_in_front (StandsFor g) front w each)
+    sym (as_ending c front some) ∙ ends_in g front some (all_in_front (StandsFor g) front w each)
     ∙ sym (ap first_cluster is ∙ begins_in_one g w rest more (all_back (StandsFor g) front w each))
 
-pub cut_spread : (f : Glyph → Glyphs) → IsSpread f → (gs front back : Glyphs) → spread_out f gs ≡ front ++ back
-    → 0 < length front → ending front ≢ first_cluster back → SpreadCut f gs front back
-cut_spread f is [] front back e some differ = absurd (omega (arith, ap length e, length-append front back, some))
-cut_spread f is (g ∷ gs) front back e some differ = elim (split (f g) (spread_out f gs) front back e) [
-  | inl w ↦ cut_behind f g gs front w.0 back w.1.0 w.1.1 differ
-      (λ more other. cut_spread f is gs w.0 back w.1.1 more other)
-  | inr w ↦ absurd (differ (inside g (f g) front w.0 back (spread_out f gs) (is.each g) w.1.1.0 w.1.1.1 some w.1.0))
-]
+-- the first glyph goes
+cut_gone : (f : Glyph → Glyphs) (h g : Glyph) (gs front back : Glyphs) → f g ≡ [] → ((0 < length (f g)) ⊎ GoesBehind h g)
+    → SpreadCut f g gs front back → SpreadCut f h (g ∷ gs) front back
+cut_gone f h g gs front back none stays it = record {
+  before = g ∷ it.before;
+  behind = it.behind;
+  parts = ap (λ l. g ∷ l) it.parts;
+  first = ap (λ l. l ++ spread_out f it.before) none ∙ it.first;
+  second = it.second;
+  before_stays = (stays, it.before_stays);
+  behind_stays = it.behind_stays;
+}
+
+-- it stays, and the cut is behind it
+cut_behind : (f : Glyph → Glyphs) (h g : Glyph) (gs front w back : Glyphs) → front ≡ f g ++ w
+    → ((0 < length (f g)) ⊎ GoesBehind h g) → SpreadCut f g gs w back → SpreadCut f h (g ∷ gs) front back
+cut_behind f h g gs front w back whole stays it = record {
+  before = g ∷ it.before;
+  behind = it.behind;
+  parts = ap (λ l. g ∷ l) it.parts;
+  first = ap (λ l. f g ++ l) it.first ∙ sym whole;
+  second = it.second;
+  before_stays = (stays, it.before_stays);
+  behind_stays = it.behind_stays;
+}
+
+gone_ends : (h g : Glyph) (n : ℕ) (front : Glyphs) → n ≡ 0 → ((0 < n) ⊎ GoesBehind h g)
+    → ending_behind h.cluster front ≡ ending_behind g.cluster front
+gone_ends h g n front none (inl stays) = absurd (omega (arith, none, stays))
+gone_ends h g n front none (inr goes) = ap (λ c. ending_behind c front) (sym goes.cluster)
+
+cut_by : (f : Glyph → Glyphs) → IsSpread f → (h g : Glyph) (gs front back made : Glyphs) → f g ≡ made
+    → made ++ spread_out f gs ≡ front ++ back → ending_behind h.cluster front ≢ first_cluster back
+    → StayOrGo (λ x. length (f x)) h (g ∷ gs)
+    → ((w : Glyphs) → spread_out f gs ≡ w ++ back → ending_behind g.cluster w ≢ first_cluster back → SpreadCut f g gs w back)
+    → SpreadCut f h (g ∷ gs) front back
+cut_by f is h g gs front back [] is_made e differ stays on =
+    cut_gone f h g gs front back is_made stays.0 (on front e (λ same. differ
+    (gone_ends h g (length (f g)) front (ap length is_made) stays.0 ∙ same)))
+cut_by f is h g gs [] back (x ∷ xs) is_made e differ stays on = record {
+  before = [];
+  behind = g ∷ gs;
+  parts = refl;
+  first = refl;
+  second = ap (λ l. l ++ spread_out f gs) is_made ∙ e;
+  before_stays = tt;
+  behind_stays = (omega (arith, ap length is_made), stays.1);
+}
+cut_by f is h g gs (y ∷ ys) back (x ∷ xs) is_made e differ stays on =
+    elim (split (x ∷ xs) (spread_out f gs) (y ∷ ys) back e) [
+      | inl w ↦ cut_behind f h g gs (y ∷ ys) w.0 back (w.1.0 ∙ ap (λ l. l ++ w.0) (sym is_made)) stays.0
+          (on w.0 w.1.1 (λ same. differ (ap (ending_behind h.cluster) w.1.0 ∙ ends_of h.cluster g (x ∷ xs) w.0
+          (subst (AllByRecursion (StandsFor g)) is_made (is.each g)) (inl (omega arith)) ∙ same)))
+      | inr w ↦ absurd (differ (inside g h.cluster (x ∷ xs) (y ∷ ys) w.0 back (spread_out f gs)
+          (subst (AllByRecursion (StandsFor g)) is_made (is.each g)) w.1.1.0 w.1.1.1 (omega arith) w.1.0))
+    ]
+
+cut_spread : (f : Glyph → Glyphs) → IsSpread f → (h : Glyph) (gs front back : Glyphs) → spread_out f gs ≡ front ++ back
+    → 0 < length back → ending_behind h.cluster front ≢ first_cluster back → StayOrGo (λ g. length (f g)) h gs
+    → SpreadCut f h gs front back
+cut_spread f is h [] front back e more differ stays = absurd (omega (arith, ap length e, length-append front back, more))
+cut_spread f is h (g ∷ gs) front back e more differ stays = cut_by f is h g gs front back (f g) refl e differ stays
+    (λ w rest other. cut_spread f is g gs w back rest more other stays.1)
 
 -- ---- FLAGS
 
@@ -150,42 +217,70 @@ any_both : (P : Glyph → Bool) (xs ys : Glyphs) → list_any P (xs ++ ys) ≡ (
 any_both P [] ys = refl
 any_both P (x ∷ xs) ys = ap (λ b. P x || b) (any_both P xs ys) ∙ sym (or_assoc (P x) (list_any P xs) (list_any P ys))
 
-any_spread : (f : Glyph → Glyphs) → IsSpread f → (c : ℕ) (gs : Glyphs)
+both_are : (a b : Bool) → (a && b) ≡ true → (a ≡ true) × (b ≡ true)
+both_are true b e = (refl, e)
+both_are false b e = absurd (false≢true e)
+
+absorbed : (h g y z : Bool) → (g ≡ true → h ≡ true) → (g || y) ≡ (g || z) → (h || y) ≡ (h || (g || z))
+absorbed true g y z on e = refl
+absorbed false true y z on e = absurd (false≢true (on refl))
+absorbed false false y z on e = e
+
+-- a flag that goes is in the cluster still
+gone_flag : (c : ℕ) (h g : Glyph) → GoesBehind h g → unsafe_in c g ≡ true → unsafe_in c h ≡ true
+gone_flag c h g goes e =
+    let both = both_are (g.cluster == c) (is_unsafe g) e in
+    ap (λ b. b && is_unsafe h) (ap (λ k. k == c) (sym goes.cluster) ∙ both.0) ∙ goes.flagged both.1
+
+any_kept : (c : ℕ) (h g : Glyph) (xs ys zs : Glyphs) → AllByRecursion (StandsFor g) xs → ((0 < length xs) ⊎ GoesBehind h g)
+    → (unsafe_in c g || list_any (unsafe_in c) ys) ≡ (unsafe_in c g || list_any (unsafe_in c) zs)
+    → (unsafe_in c h || list_any (unsafe_in c) (xs ++ ys)) ≡ (unsafe_in c h || list_any (unsafe_in c) (g ∷ zs))
+any_kept c h g [] ys zs all (inl stays) rest = absurd (omega (arith, stays))
+any_kept c h g [] ys zs all (inr goes) rest =
+    absorbed (unsafe_in c h) (unsafe_in c g) (list_any (unsafe_in c) ys) (list_any (unsafe_in c) zs) (gone_flag c h g goes) rest
+any_kept c h g (x ∷ xs) ys zs all stays rest = ap (λ b. unsafe_in c h || b) (any_both (unsafe_in c) (x ∷ xs) ys
+    ∙ ap (λ b. b || list_any (unsafe_in c) ys) (any_of_one c g (x ∷ xs) (omega arith) all) ∙ rest)
+
+any_behind : (f : Glyph → Glyphs) → IsSpread f → (c : ℕ) (h : Glyph) (gs : Glyphs) → StayOrGo (λ g. length (f g)) h gs
+    → (unsafe_in c h || list_any (unsafe_in c) (spread_out f gs)) ≡ (unsafe_in c h || list_any (unsafe_in c) gs)
+any_behind f is c h [] stays = refl
+any_behind f is c h (g ∷ gs) stays =
+    any_kept c h g (f g) (spread_out f gs) gs (is.each g) stays.0 (any_behind f is c g gs stays.1)
+
+any_spread : (f : Glyph → Glyphs) → IsSpread f → (c : ℕ) (gs : Glyphs) → FirstStays (λ g. length (f g)) gs
     → list_any (unsafe_in c) (spread_out f gs) ≡ list_any (unsafe_in c) gs
-any_spread f is c [] = refl
-any_spread f is c (g ∷ gs) = any_both (unsafe_in c) (f g) (spread_out f gs)
-    ∙ ap (λ b. b || list_any (unsafe_in c) (spread_out f gs)) (any_of_one c g (f g) (is.some g) (is.each g))
-    ∙ ap (λ b. unsafe_in c g || b) (any_spread f is c gs)
+any_spread f is c [] stays = refl
+any_spread f is c (g ∷ gs) stays = any_both (unsafe_in c) (f g) (spread_out f gs)
+    ∙ ap (λ b. b || list_any (unsafe_in c) (spread_out f gs)) (any_of_one c g (f g) stays.0 (is.each g))
+    ∙ any_behind f is c g gs stays.1
 
 -- ---- CLEAR PLACES
 
-pub clear_spread : (f : Glyph → Glyphs) → IsSpread f → (before behind : Glyphs) → 0 < length before → 0 < length behind
-    → IsClear (spread_out f before ++ spread_out f behind) (length (spread_out f before))
-    → spread_out f (before ++ behind) ≡ spread_out f before ++ spread_out f behind
-    → IsClear (before ++ behind) (length before)
-clear_spread f is before behind some more clear whole =
-    let xs = spread_out f before in
-    let ys = spread_out f behind in
+spread_both : (f : Glyph → Glyphs) (xs ys : Glyphs) → spread_out f (xs ++ ys) ≡ spread_out f xs ++ spread_out f ys
+spread_both f [] ys = refl
+spread_both f (x ∷ xs) ys = ap (λ l. f x ++ l) (spread_both f xs ys) ∙ sym (append_assoc (f x) (spread_out f xs) (spread_out f ys))
+
+clear_spread : (f : Glyph → Glyphs) → IsSpread f → (before behind xs ys : Glyphs) → 0 < length before → 0 < length behind
+    → 0 < length xs → 0 < length ys → spread_out f before ≡ xs → spread_out f behind ≡ ys
+    → FirstStays (λ g. length (f g)) before → FirstStays (λ g. length (f g)) behind
+    → FirstStays (λ g. length (f g)) (before ++ behind) → IsClear (xs ++ ys) (length xs) → IsClear (before ++ behind) (length before)
+clear_spread f is before behind xs ys some more x_some y_some one two b_stays k_stays stays clear =
     let gs : Glyphs = before ++ behind in
-    let x_some : 0 < length xs = omega (arith, some, spread_some f is before) in
-    let y_some : 0 < length ys = omega (arith, more, spread_some f is behind) in
+    let whole : spread_out f gs ≡ xs ++ ys = spread_both f before behind ∙ ap (λ l. l ++ spread_out f behind) one
+    ∙ ap (λ l. xs ++ l) two in
     let last : slice_index (clusters (xs ++ ys)) (length xs - 1) ≡ slice_index (clusters gs) (length before - 1) =
-    before_place xs ys x_some ∙ spread_ends f is before ∙ sym (before_place before behind some) in
+    ended_before xs ys x_some ∙ ap ending (sym one) ∙ first_ends f is before b_stays some ∙ sym (ended_before before behind some) in
     let first : slice_index (clusters (xs ++ ys)) (length xs) ≡ slice_index (clusters gs) (length before) =
-    behind_place xs ys y_some ∙ spread_begins f is behind ∙ sym (behind_place before behind more) in
+    behind_place xs ys y_some ∙ ap first_cluster (sym two) ∙ spread_begins f is behind k_stays ∙ sym (behind_place before behind more) in
     let most : greater (xs ++ ys) (length xs) ≡ greater gs (length before) =
     ap (λ k. max k (slice_index (clusters (xs ++ ys)) (length xs))) last
     ∙ ap (max (slice_index (clusters gs) (length before - 1))) first in
     record {
       differ = λ same. clear.differ (last ∙ same ∙ sym first);
-      unflagged = sym (any_spread f is (greater gs (length before)) gs)
+      unflagged = sym (any_spread f is (greater gs (length before)) gs stays)
           ∙ ap (list_any (unsafe_in (greater gs (length before)))) whole
           ∙ ap (λ c. list_any (unsafe_in c) (xs ++ ys)) (sym most) ∙ clear.unflagged;
     }
-
-spread_both : (f : Glyph → Glyphs) (xs ys : Glyphs) → spread_out f (xs ++ ys) ≡ spread_out f xs ++ spread_out f ys
-spread_both f [] ys = refl
-spread_both f (x ∷ xs) ys = ap (λ l. f x ++ l) (spread_both f xs ys) ∙ sym (append_assoc (f x) (spread_out f xs) (spread_out f ys))
 
 some_before : (f : Glyph → Glyphs) (gs made : Glyphs) → spread_out f gs ≡ made → 0 < length made → 0 < length gs
 some_before f [] made e some = absurd (omega (arith, ap length e, some))
@@ -198,28 +293,46 @@ pub record ClearCut (f : Glyph → Glyphs) (gs front back : Glyphs) : Type 0 whe
   pub pieces : CutWhereClear gs before behind
   pub first : spread_out f before ≡ front
   pub second : spread_out f behind ≡ back
+  pub before_stays : FirstStays (λ g. length (f g)) before
+  pub behind_stays : FirstStays (λ g. length (f g)) behind
 
-pub cut_clear : (f : Glyph → Glyphs) → IsSpread f → (gs front back : Glyphs) → CutWhereClear (spread_out f gs) front back
-    → ClearCut f gs front back
-cut_clear f is gs front back cut =
-    let clear : IsClear (front ++ back) (length front) = subst (λ l. IsClear l (length front)) cut.parts cut.clear in
-    let differ : ending front ≢ first_cluster back = λ same. clear.differ (before_place front back cut.some_in_front ∙ same
-    ∙ sym (behind_place front back cut.some_behind)) in
-    let it = cut_spread f is gs front back cut.parts cut.some_in_front differ in
-    let some = some_before f it.before front it.first cut.some_in_front in
-    let more = some_before f it.behind back it.second cut.some_behind in
-    let one = subst (λ l. IsClear (l ++ back) (length l)) (sym it.first) clear in
-    let both = subst (λ l. IsClear (spread_out f it.before ++ l) (length (spread_out f it.before))) (sym it.second) one in
+-- the cut of a text that begins with a glyph, by the cut behind this one
+first_cut : (f : Glyph → Glyphs) → IsSpread f → (g : Glyph) (gs front w back : Glyphs) → front ≡ f g ++ w → 0 < length (f g)
+    → FirstStays (λ x. length (f x)) (g ∷ gs) → 0 < length front → 0 < length back → IsClear (front ++ back) (length front)
+    → SpreadCut f g gs w back → ClearCut f (g ∷ gs) front back
+first_cut f is g gs front w back whole here stays some more clear it =
+    let before : Glyphs = g ∷ it.before in
+    let first : spread_out f before ≡ front = ap (λ l. f g ++ l) it.first ∙ sym whole in
+    let parts : g ∷ gs ≡ before ++ it.behind = ap (λ l. g ∷ l) it.parts in
+    let k_some = some_before f it.behind back it.second more in
     record {
-      before = it.before;
+      before = before;
       behind = it.behind;
       pieces = record {
-        parts = it.parts;
-        some_in_front = some;
-        some_behind = more;
-        clear = subst (λ l. IsClear l (length it.before)) (sym it.parts)
-            (clear_spread f is it.before it.behind some more both (spread_both f it.before it.behind));
+        parts = parts;
+        some_in_front = omega arith;
+        some_behind = k_some;
+        clear = subst (λ l. IsClear l (length before)) (sym parts) (clear_spread f is before it.behind front back (omega arith) k_some
+            some more first it.second (here, it.before_stays) it.behind_stays
+            (subst (FirstStays (λ x. length (f x))) parts stays) clear);
       };
-      first = it.first;
+      first = first;
       second = it.second;
+      before_stays = (here, it.before_stays);
+      behind_stays = it.behind_stays;
     }
+
+pub cut_clear : (f : Glyph → Glyphs) → IsSpread f → (gs front back : Glyphs) → FirstStays (λ g. length (f g)) gs
+    → CutWhereClear (spread_out f gs) front back → ClearCut f gs front back
+cut_clear f is [] front back stays cut = absurd (omega (arith, ap length cut.parts, length-append front back, cut.some_behind))
+cut_clear f is (g ∷ gs) front back stays cut =
+    let clear : IsClear (front ++ back) (length front) = subst (λ l. IsClear l (length front)) cut.parts cut.clear in
+    let differ : ending front ≢ first_cluster back = λ same. clear.differ (ended_before front back cut.some_in_front ∙ same
+    ∙ sym (behind_place front back cut.some_behind)) in
+    elim (split (f g) (spread_out f gs) front back cut.parts) [
+      | inl w ↦ first_cut f is g gs front w.0 back w.1.0 stays.0 stays cut.some_in_front cut.some_behind clear
+          (cut_spread f is g gs w.0 back w.1.1 cut.some_behind (λ same. differ (as_ending 0 front cut.some_in_front
+          ∙ ap (ending_behind 0) w.1.0 ∙ ends_of 0 g (f g) w.0 (is.each g) (inl stays.0) ∙ same)) stays.1)
+      | inr w ↦ absurd (differ (as_ending 0 front cut.some_in_front ∙ inside g 0 (f g) front w.0 back (spread_out f gs) (is.each g)
+          w.1.1.0 w.1.1.1 cut.some_in_front w.1.0))
+    ]

@@ -1,5 +1,5 @@
 -- A font's sequence at small texts: what it makes of them, and where it doesn't leave their pieces side by side.
-use Rattle.std.proofs.Common.{ℕ, zero, suc, ◌+◌, ◌<◌, ◌≡◌, true, false, List, [], ◌∷◌, ◌++◌, length, take, map, length-append, refl, sym, ap, ◌∙◌, subst, arith}
+use Rattle.std.proofs.Common.{ℕ, zero, suc, ◌+◌, ◌<◌, ◌≡◌, inl, inr, true, false, List, [], ◌∷◌, ◌++◌, length, take, map, length-append, refl, sym, ap, ◌∙◌, subst, arith}
 use Rattle.std.proofs.lemmas.Bool.{false≢true}
 use Rattle.std.proofs.lemmas.List.{take_at}
 use Rattle.shapers_buffer.specs.Buffer.{Buffer, new_buffer}
@@ -26,7 +26,7 @@ use Rattle.opentype_gsub.specs.Substituted.{applied, substituted}
 use Rattle.opentype_font.specs.Lookups.{substituted_by}
 use Rattle.shapers_plan.specs.declared.ot_map.lookups.StageLookup.{StageLookup}
 use Rattle.shapers_editing.specs.PipelineBreaks.{AreAsIn, IsPiece, LookupLeaves, Numbering, unlinked}
-use Rattle.opentype_break_laws.specs.Sequences.{ComparesNumbers, PutsSequences, TakesSequences, all_beside, both_numbered, glyphs_of_all, glyphs_of_one}
+use Rattle.opentype_break_laws.specs.Sequences.{ComparesNumbers, GoesBehind, PutsSequences, TakesSequences, all_beside, both_numbered, glyphs_of_all, glyphs_of_one}
 use Rattle.opentype_break_laws.proofs.LigatureFontRows.{as_first, first_number}
 use Rattle.opentype_break_laws.proofs.SequencePieces.{sequences_leave}
 
@@ -94,6 +94,11 @@ of_none : map (glyphs_of_one 256 (lookup_in (sequencing empty) 0)) three_glyphs 
 unfolding bisect first_from
 of_none = refl
 
+-- one that goes counts as one
+of_all_gone : glyphs_of_all 256 (lookup_in (sequencing empty) 0) three_glyphs ≡ 3
+unfolding bisect first_from
+of_all_gone = refl
+
 -- which numbers of ligatures are told apart: those below 32 are none
 by_presence : map (λ n. both_numbered (record { 0 = n }) (record { 0 = 31 })) (0 ∷ 31 ∷ 32 ∷ 95 ∷ [])
     ≡ true ∷ true ∷ false ∷ false ∷ []
@@ -137,7 +142,7 @@ falling = text_of 4 (glyph 5 1 1 ∷ glyph 1 0 0 ∷ glyph 5 1 0 ∷ [])
 takes_two : TakesSequences falling (sequencing three_four) lookup falling
 unfolding bisect first_from
 takes_two = record {
-  some = (omega arith, (omega arith, (omega arith, tt)));
+  stays = (omega arith, (inl (omega arith), (inl (omega arith), tt)));
   size = refl;
   room = omega arith;
 }
@@ -229,7 +234,40 @@ row_numbers leaves =
     let parts = as_parts any_numbers front (made three_four 9 (numbered_one ∷ [])) (it.first (text_of 9 (numbered_one ∷ [])) piece) in
     absurd (omega (arith, ap second_of (sym kept_numbers ∙ parts)))
 
--- ---- AN EMPTY SEQUENCE: the 1 goes, and so does the flag that forbade a break before its cluster
+-- ---- AN EMPTY SEQUENCE: the 1 goes behind a glyph of its cluster
+puts_none : PutsSequences (sequencing empty) lookup
+puts_none = record { some = omega arith; types = λ i less. refl; flagless = refl }
+
+abbrev follower : Buffer
+follower = text_of 9 (glyph 5 0 0 ∷ glyph 1 0 0 ∷ glyph 5 1 0 ∷ [])
+
+goes_behind : GoesBehind (glyph 5 0 0) (glyph 1 0 0)
+goes_behind = record { cluster = refl; syllable = refl; flagged = λ e. e }
+
+takes_none : TakesSequences follower (sequencing empty) lookup follower
+unfolding bisect first_from
+takes_none = record {
+  stays = (omega arith, (inr goes_behind, (inl (omega arith), tt)));
+  size = refl;
+  room = omega arith;
+}
+
+row_follower : (numbered : Numbering) → ComparesNumbers numbered
+    → LookupLeaves numbered follower (substituted_by [] (sequencing empty)) lookup follower
+row_follower numbered compares = sequences_leave numbered compares follower [] (sequencing empty) lookup follower puts_none takes_none
+
+-- ---- WHERE A FLAG GOES with it, so that a place is clear where none was
+none_left : (gs : Glyphs) (back : Glyph) → made empty 9 gs ≡ glyph 4 0 0 ∷ back ∷ []
+    → CutWhereClear (glyph 4 0 0 ∷ back ∷ []) (glyph 4 0 0 ∷ []) (back ∷ []) → length gs ≡ 3
+    → ((n : ℕ) → 0 < n → n < 3 → IsClear gs n → ⊥) → (numbered : Numbering)
+    → LookupLeaves numbered (text_of 9 gs) (substituted_by [] (sequencing empty)) lookup (text_of 9 gs) → ⊥
+none_left gs back is cut long none numbered leaves =
+    let it = leaves (glyph 4 0 0 ∷ []) (back ∷ []) (subst (λ l. CutWhereClear l (glyph 4 0 0 ∷ []) (back ∷ [])) (sym is) cut) in
+    let own = it.pieces in
+    none (length it.before) own.some_in_front
+    (omega (arith, ap length own.parts, long, length-append it.before it.behind, own.some_behind)) own.clear
+
+-- the first of its cluster, flagged alone
 abbrev flagged_first : Glyphs
 flagged_first = glyph 4 0 0 ∷ glyph 1 1 1 ∷ glyph 2 1 0 ∷ []
 
@@ -245,14 +283,32 @@ none_clear (suc (suc (suc n))) some few clear = absurd (omega (arith, few))
 
 row_gone : (numbered : Numbering) → LookupLeaves numbered (text_of 9 flagged_first) (substituted_by [] (sequencing empty)) lookup
     (text_of 9 flagged_first) → ⊥
-row_gone numbered leaves =
-    let front : Glyphs = glyph 4 0 0 ∷ [] in
-    let it = leaves front (glyph 2 1 0 ∷ []) (subst (λ gs. CutWhereClear gs front (glyph 2 1 0 ∷ [])) (sym gone) (record {
-      parts = refl;
-      some_in_front = omega arith;
-      some_behind = omega arith;
-      clear = record { differ = λ e. absurd (omega (arith, e)); unflagged = refl };
-    })) in
-    let cut = it.pieces in
-    none_clear (length it.before) cut.some_in_front
-    (omega (arith, ap length cut.parts, length-append it.before it.behind, cut.some_behind)) cut.clear
+row_gone = none_left flagged_first (glyph 2 1 0) gone (record {
+  parts = refl;
+  some_in_front = omega arith;
+  some_behind = omega arith;
+  clear = record { differ = λ e. absurd (omega (arith, e)); unflagged = refl };
+}) refl none_clear
+
+-- the last of its cluster, flagged alone
+abbrev flagged_last : Glyphs
+flagged_last = glyph 4 0 0 ∷ glyph 2 1 0 ∷ glyph 1 1 1 ∷ []
+
+last_gone : made empty 9 flagged_last ≡ glyph 4 0 0 ∷ glyph 2 1 0 ∷ []
+unfolding substituted applied lookup_applied lookup_stepped is_seen nested tried came_in nth_came sights_of sight_of_input sight_of_context flag_in ignores bisect first_from one_put multiple_put handed_on
+last_gone = refl
+
+last_unclear : (n : ℕ) → 0 < n → n < 3 → IsClear flagged_last n → ⊥
+last_unclear zero some few clear = absurd (omega (arith, some))
+last_unclear (suc zero) some few clear = false≢true (sym clear.unflagged)
+last_unclear (suc (suc zero)) some few clear = clear.differ refl
+last_unclear (suc (suc (suc n))) some few clear = absurd (omega (arith, few))
+
+row_last : (numbered : Numbering) → LookupLeaves numbered (text_of 9 flagged_last) (substituted_by [] (sequencing empty)) lookup
+    (text_of 9 flagged_last) → ⊥
+row_last = none_left flagged_last (glyph 2 1 0) last_gone (record {
+  parts = refl;
+  some_in_front = omega arith;
+  some_behind = omega arith;
+  clear = record { differ = λ e. absurd (omega (arith, e)); unflagged = refl };
+}) refl last_unclear

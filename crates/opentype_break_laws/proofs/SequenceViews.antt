@@ -1,5 +1,5 @@
 -- Texts that are the same but for numbers, glyph by glyph; and what sequences make of them.
-use Rattle.std.proofs.Common.{ℕ, zero, suc, ◌+◌, ◌*◌, ◌%◌, ◌<◌, ◌≡◌, ◌==◌, ◌&&◌, nat_lt, bit_and, bit_or, if◌then◌else◌, Bool, true, false, List, [], ◌∷◌, ◌++◌, length, map, drop, Option, None, Some, refl, sym, ap, subst, ◌∙◌, arith}
+use Rattle.std.proofs.Common.{ℕ, zero, suc, ◌+◌, ◌*◌, ◌%◌, ◌<◌, ◌≡◌, ◌==◌, ◌&&◌, ◌⊎◌, inl, inr, nat_lt, bit_and, bit_or, if◌then◌else◌, Bool, true, false, List, [], ◌∷◌, ◌++◌, length, map, drop, Option, None, Some, refl, sym, ap, subst, ◌∙◌, arith}
 use Rattle.std.specs.List.{AllByRecursion}
 use Rattle.std.proofs.lemmas.Bool.{false≢true}
 use Rattle.std.proofs.lemmas.Bool.Decides.{nat_tests}
@@ -14,9 +14,10 @@ use Rattle.opentype_face.specs.Bytes.{u16_in}
 use Rattle.opentype_gsub.specs.Edits.{count_in, replaced, sequence_glyph, sequence_glyphs}
 use Rattle.opentype_gsub.specs.Setting.{is_seen}
 use Rattle.opentype_gsub.specs.declared.pass.LookupUse.{LookupUse}
-use Rattle.opentype_break_laws.specs.Sequences.{ComparesNumbers, all_beside, sequence_for}
+use Rattle.opentype_break_laws.specs.Sequences.{ComparesNumbers, FirstStays, GoesBehind, StayOrGo, all_beside, sequence_for}
 use Rattle.opentype_break_laws.proofs.LigatureFits.{essence}
 use Rattle.opentype_break_laws.proofs.LigatureBorders.{HasByte, begins_piece}
+use Rattle.opentype_break_laws.proofs.LigatureModel.{is_equal}
 use Rattle.opentype_break_laws.proofs.LigatureViews.{head_or}
 use Rattle.opentype_break_laws.proofs.LigatureWalk.{seen_same}
 
@@ -214,9 +215,8 @@ pub record StandsFor (g x : Glyph) : Type 0 where
   pub mask : x.mask ≡ g.mask
   pub byte : x.syllable ≡ g.syllable
 
--- what puts glyphs that stand for it in the place of each
+-- what puts glyphs that stand for it in the place of each, or none
 pub record IsSpread (f : Glyph → Glyphs) : Type 0 where
-  pub some : (g : Glyph) → 0 < length (f g)
   pub each : (g : Glyph) → AllByRecursion (StandsFor g) (f g)
 
 abbrev pub spread_out : (Glyph → Glyphs) → Glyphs → Glyphs
@@ -232,26 +232,59 @@ begins_with : (byte : ℕ) (g : Glyph) (xs ys : Glyphs) → 0 < length xs → Al
 begins_with byte g [] ys some all = absurd (omega (arith, some))
 begins_with byte g (x ∷ xs) ys some all = ap (λ n. n == byte) all.0.byte
 
-begins_spread : (f : Glyph → Glyphs) → IsSpread f → (byte : ℕ) (gs : Glyphs) → begins_in byte (spread_out f gs) ≡ begins_in byte gs
-begins_spread f is byte [] = refl
-begins_spread f is byte (g ∷ gs) = begins_with byte g (f g) (spread_out f gs) (is.some g) (is.each g)
+-- texts side by side, as they begin behind two glyphs
+pub record BesideBehind (test : LigProps → LigProps → Bool) (x y : Glyph) (gs hs : Glyphs) : Type 0 where
+  pub all : AllBeside test gs hs
+  pub begins : begins_in x.syllable gs ≡ begins_in y.syllable hs
+
+spread_next : (test : LigProps → LigProps → Bool) (f : Glyph → Glyphs) (x y g h : Glyph) (gs hs xs ys : Glyphs)
+    → Paired test xs ys → AllByRecursion (StandsFor g) xs → AllByRecursion (StandsFor h) ys
+    → (g.syllable == x.syllable) ≡ (h.syllable == y.syllable) → ((0 < length ys) ⊎ GoesBehind y h)
+    → BesideBehind test g h (spread_out f gs) (spread_out f hs)
+    → BesideBehind test x y (xs ++ spread_out f gs) (ys ++ spread_out f hs)
+spread_next test f x y g h gs hs [] [] pairs one two same (inl stays) rest = absurd (omega (arith, stays))
+spread_next test f x y g h gs hs [] [] pairs one two same (inr goes) rest =
+    let back : (g.syllable == x.syllable) ≡ true = same ∙ equal h.syllable y.syllable goes.syllable in
+    record {
+      all = rest.all;
+      begins = ap (λ k. begins_in k (spread_out f gs)) (sym (is_equal g.syllable x.syllable back)) ∙ rest.begins
+          ∙ ap (λ k. begins_in k (spread_out f hs)) goes.syllable;
+    }
+spread_next test f x y g h gs hs [] (b ∷ ys) pairs one two same stays rest = absurd pairs
+spread_next test f x y g h gs hs (a ∷ xs) [] pairs one two same stays rest = absurd pairs
+spread_next test f x y g h gs hs (a ∷ xs) (b ∷ ys) pairs one two same stays rest = record {
+  all = both_beside test g.syllable h.syllable (a ∷ xs) (b ∷ ys) (spread_out f gs) (spread_out f hs) pairs
+      (bytes_of g (a ∷ xs) one) (bytes_of h (b ∷ ys) two) rest.begins rest.all;
+  begins = begins_with x.syllable g (a ∷ xs) (spread_out f gs) (omega arith) one ∙ same
+      ∙ sym (begins_with y.syllable h (b ∷ ys) (spread_out f hs) (omega arith) two);
+}
+
+spread_behind : (test : LigProps → LigProps → Bool) (f : Glyph → Glyphs) → IsSpread f
+    → ((g h : Glyph) → Beside test g h → Paired test (f g) (f h)) → (x y : Glyph) (gs hs : Glyphs)
+    → begins_in x.syllable gs ≡ begins_in y.syllable hs → AllBeside test gs hs → StayOrGo (λ g. length (f g)) y hs
+    → BesideBehind test x y (spread_out f gs) (spread_out f hs)
+spread_behind test f is pairs x y [] [] same all stays = record { all = tt; begins = refl }
+spread_behind test f is pairs x y [] (h ∷ hs) same all stays = absurd all
+spread_behind test f is pairs x y (g ∷ gs) [] same all stays = absurd all
+spread_behind test f is pairs x y (g ∷ gs) (h ∷ hs) same all stays =
+    spread_next test f x y g h gs hs (f g) (f h) (pairs g h all.0) (is.each g) (is.each h) same stays.0
+    (spread_behind test f is pairs g h gs hs all.1.0 all.1.1 stays.1)
 
 pub spread_beside : (test : LigProps → LigProps → Bool) (f : Glyph → Glyphs) → IsSpread f
     → ((g h : Glyph) → Beside test g h → Paired test (f g) (f h)) → (gs hs : Glyphs) → AllBeside test gs hs
-    → AllBeside test (spread_out f gs) (spread_out f hs)
-spread_beside test f is pairs [] [] all = tt
-spread_beside test f is pairs [] (h ∷ hs) all = absurd all
-spread_beside test f is pairs (g ∷ gs) [] all = absurd all
-spread_beside test f is pairs (g ∷ gs) (h ∷ hs) all =
-    both_beside test g.syllable h.syllable (f g) (f h) (spread_out f gs) (spread_out f hs) (pairs g h all.0)
-    (bytes_of g (f g) (is.each g)) (bytes_of h (f h) (is.each h))
-    (begins_spread f is g.syllable gs ∙ all.1.0 ∙ sym (begins_spread f is h.syllable hs))
-    (spread_beside test f is pairs gs hs all.1.1)
+    → FirstStays (λ g. length (f g)) hs → AllBeside test (spread_out f gs) (spread_out f hs)
+spread_beside test f is pairs [] [] all stays = tt
+spread_beside test f is pairs [] (h ∷ hs) all stays = absurd all
+spread_beside test f is pairs (g ∷ gs) [] all stays = absurd all
+spread_beside test f is pairs (g ∷ gs) (h ∷ hs) all stays =
+    (spread_next test f g h g h gs hs (f g) (f h) (pairs g h all.0) (is.each g) (is.each h)
+    (equal g.syllable g.syllable refl ∙ sym (equal h.syllable h.syllable refl)) (inl stays.0)
+    (spread_behind test f is pairs g h gs hs all.1.0 all.1.1 stays.1)).all
 
--- ---- A SEQUENCE in the place of a glyph; the glyph itself where the sequence is empty
+-- ---- A SEQUENCE in the place of a glyph
 
 abbrev pub so_many : List ℕ → List ℕ → Glyph → ℕ → Glyphs
-so_many gdef sequence g zero = g ∷ []
+so_many gdef sequence g zero = []
 so_many gdef sequence g (suc zero) = replaced gdef (u16_in sequence 2) 0 g ∷ []
 so_many gdef sequence g (suc (suc n)) = sequence_glyphs (suc (suc n)) gdef sequence g 0
 
@@ -278,18 +311,14 @@ sequence_long (suc n) gdef sequence g k = ap suc (sequence_long n gdef sequence 
 
 many_stand : (gdef sequence : List ℕ) (g : Glyph) (n : ℕ) → AllByRecursion (StandsFor g) (so_many gdef sequence g n)
 unfolding replaced
-many_stand gdef sequence g zero = (record { cluster = refl; mask = refl; byte = refl }, tt)
+many_stand gdef sequence g zero = tt
 many_stand gdef sequence g (suc zero) = (record { cluster = refl; mask = refl; byte = refl }, tt)
 many_stand gdef sequence g (suc (suc n)) = sequence_stands (suc (suc n)) gdef sequence g 0
 
-pub many_long : (gdef sequence : List ℕ) (g : Glyph) (n : ℕ) → 0 < n → length (so_many gdef sequence g n) ≡ n
-many_long gdef sequence g zero some = absurd (omega (arith, some))
-many_long gdef sequence g (suc zero) some = refl
-many_long gdef sequence g (suc (suc n)) some = sequence_long (suc (suc n)) gdef sequence g 0
-
-some_of_many : (gdef sequence : List ℕ) (g : Glyph) (n : ℕ) → 0 < length (so_many gdef sequence g n)
-some_of_many gdef sequence g zero = omega arith
-some_of_many gdef sequence g (suc n) = omega (arith, many_long gdef sequence g (suc n) (omega arith))
+pub many_long : (gdef sequence : List ℕ) (g : Glyph) (n : ℕ) → length (so_many gdef sequence g n) ≡ n
+many_long gdef sequence g zero = refl
+many_long gdef sequence g (suc zero) = refl
+many_long gdef sequence g (suc (suc n)) = sequence_long (suc (suc n)) gdef sequence g 0
 
 by_stands : (gdef : List ℕ) (seen : Bool) (found : Option (List ℕ)) (g : Glyph)
     → AllByRecursion (StandsFor g) (spread_by gdef seen found g)
@@ -297,14 +326,8 @@ by_stands gdef true (Some sequence) g = many_stand gdef sequence g (count_in seq
 by_stands gdef true None g = (record { cluster = refl; mask = refl; byte = refl }, tt)
 by_stands gdef false found g = (record { cluster = refl; mask = refl; byte = refl }, tt)
 
-some_by : (gdef : List ℕ) (seen : Bool) (found : Option (List ℕ)) (g : Glyph) → 0 < length (spread_by gdef seen found g)
-some_by gdef true (Some sequence) g = some_of_many gdef sequence g (count_in sequence)
-some_by gdef true None g = omega arith
-some_by gdef false found g = omega arith
-
 pub is_spread : (gdef : List ℕ) (use_of : LookupUse) (table : List ℕ) → IsSpread (spread gdef use_of table)
 is_spread gdef use_of table = record {
-  some = λ g. some_by gdef (is_seen gdef use_of table g) (sequence_for table (g.glyph_id % 65536)) g;
   each = λ g. by_stands gdef (is_seen gdef use_of table g) (sequence_for table (g.glyph_id % 65536)) g;
 }
 
@@ -359,7 +382,7 @@ sequences_paired numbered compares (suc n) gdef sequence k g h both =
 many_paired : (numbered : Numbering) (compares : ComparesNumbers numbered) (gdef sequence : List ℕ) (n : ℕ) (g h : Glyph)
     → Beside compares.test g h → Paired compares.test (so_many gdef sequence g n) (so_many gdef sequence h n)
 unfolding replaced
-many_paired numbered compares gdef sequence zero g h both = (both, tt)
+many_paired numbered compares gdef sequence zero g h both = tt
 many_paired numbered compares gdef sequence (suc zero) g h both = (
   record {
     alike = ap (λ x. replaced gdef (u16_in sequence 2) 0 x) both.alike;

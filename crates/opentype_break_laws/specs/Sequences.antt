@@ -1,10 +1,10 @@
 -- Sequences of a font, each in the place of one glyph, and texts that take them piece by piece.
-use Rattle.std.specs.Prelude.{ℕ, ◌+◌, ◌%◌, ◌==◌, ◌&&◌, ◌<◌, ◌≤◌, ◌≡◌, not, nat_lt, min, bit_and, Bool, true, false, List, [], ◌∷◌, Option, if◌then◌else◌}
-use Rattle.std.specs.List.{AllByRecursion}
+use Rattle.std.specs.Prelude.{ℕ, ◌+◌, ◌%◌, ◌==◌, ◌&&◌, ◌<◌, ◌≤◌, ◌≡◌, ◌⊎◌, not, nat_lt, max, min, bit_and, Bool, true, false, List, [], ◌∷◌, Option, if◌then◌else◌}
 use Rattle.std.specs.Option.{option_map_or}
 use Rattle.shapers_buffer.specs.Buffer.{Buffer}
 use Rattle.shapers_buffer.specs.Glyphs.{Glyph, Glyphs}
 use Rattle.shapers_buffer.specs.declared.buffer.lig_props.LigProps.{LigProps}
+use Rattle.shapers_clusters.specs.Breaks.{is_unsafe}
 use Rattle.opentype_face.specs.Firsts.{first_from}
 use Rattle.opentype_face.specs.Lookups.{lookup_in, subtable_in, subtables_in, type_in}
 use Rattle.opentype_gsub.specs.Decided.{set_for_glyph}
@@ -31,17 +31,35 @@ glyphs_of_one mask table g =
     if bit_and g.mask mask == 0 then 1
     else option_map_or count_in (sequence_for table (g.glyph_id % 65536)) 1
 
+-- where a glyph goes, it counts as one: it has its place until then
 abbrev pub glyphs_of_all : ℕ → List ℕ → Glyphs → ℕ
 glyphs_of_all mask table [] = 0
-glyphs_of_all mask table (g ∷ gs) = glyphs_of_one mask table g + glyphs_of_all mask table gs
+glyphs_of_all mask table (g ∷ gs) =
+    max 1 (glyphs_of_one mask table g) + glyphs_of_all mask table gs
 
--- A text that takes sequences piece by piece. None of them is empty, so no glyph goes. All have
--- room, in the text and in its pieces: a buffer takes the glyphs that come of it, and they are at
--- most 65,536, which a lookup may make of every text.
+-- A glyph goes behind one of its cluster and syllable, which is flagged as no place for a break if
+-- it is.
+pub record GoesBehind (h g : Glyph) : Type 0 where
+  pub cluster : g.cluster ≡ h.cluster
+  pub syllable : g.syllable ≡ h.syllable
+  pub flagged : is_unsafe g ≡ true → is_unsafe h ≡ true
+
+-- each glyph behind one stays, by so many glyphs that come of it, or goes so
+abbrev pub StayOrGo : (Glyph → ℕ) → Glyph → Glyphs → Type 0
+StayOrGo count h [] = Unit {0}
+StayOrGo count h (g ∷ gs) = ((0 < count g) ⊎ GoesBehind h g) × StayOrGo count g gs
+
+-- and the first one of a text stays
+abbrev pub FirstStays : (Glyph → ℕ) → Glyphs → Type 0
+FirstStays count [] = Unit {0}
+FirstStays count (g ∷ gs) = (0 < count g) × StayOrGo count g gs
+
+-- A text that takes sequences piece by piece. Where a sequence is empty, its glyph goes behind one
+-- of its cluster and syllable. All have room, in the text and in its pieces: a buffer takes the
+-- glyphs that come of it, and they are at most 65,536, which a lookup may make of every text.
 pub record TakesSequences (text : Buffer) (gsub : List ℕ) (lookup : StageLookup)
     (b : Buffer) : Type 0 where
-  pub some : AllByRecursion (λ g.
-      0 < glyphs_of_one lookup.mask (lookup_in gsub lookup.index) g) b.glyphs
+  pub stays : FirstStays (glyphs_of_one lookup.mask (lookup_in gsub lookup.index)) b.glyphs
   pub size : b.max_len ≡ text.max_len
   pub room : glyphs_of_all lookup.mask (lookup_in gsub lookup.index) b.glyphs
       ≤ min b.max_len 65536

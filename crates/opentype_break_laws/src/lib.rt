@@ -13,11 +13,11 @@ pub use two_singles::substitute_two;
 
 /// A lookup of a font whose subtables put one glyph for one (types 1 and 3, with no alternate picked
 /// at random), and a lookup of any type that begins at no glyph of the text, leaves the pieces'
-/// results of the text side by side. One of ligatures (type 4) does so in texts that take them piece
-/// by piece, and one of sequences (type 2) in texts with room for them, where none is empty. So do the
-/// lookups of a run, where each of them is such at its text; and a text that is shaped by them may be
-/// broken at every clear place, from its fractions on and up to the last stage. By whoever compares
-/// numbers of ligatures by whether there is one, sequences may follow ligatures.
+/// results of the text side by side. One of ligatures (type 4) and one of sequences (type 2) do so in
+/// texts that take them piece by piece. So do the lookups of a run, where each of them is such at its
+/// text; and a text that is shaped by them may be broken at every clear place, from its fractions on
+/// and up to the last stage. By whoever compares numbers of ligatures by whether there is one,
+/// sequences may follow ligatures.
 pub fn font_pieces_law()
     ensures lookups { FontLookupsLeavePieces }
     ensures runs { FontRunsLeavePieces }
