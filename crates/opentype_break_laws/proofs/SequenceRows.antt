@@ -312,3 +312,59 @@ row_last = none_left flagged_last (glyph 2 1 0) last_gone (record {
   some_behind = omega arith;
   clear = record { differ = λ e. absurd (omega (arith, e)); unflagged = refl };
 }) refl last_unclear
+
+-- ---- WHERE A SYLLABLE GOES between two others: in the text both are of one then, and by other serials they aren't
+abbrev of_syllable : ℕ → Glyph → Glyph
+of_syllable byte g = record g { syllable = byte }
+
+abbrev three_syllables : ℕ → Glyphs
+three_syllables last =
+    of_syllable 17 (glyph 4 0 0) ∷ of_syllable 33 (glyph 1 0 0) ∷ of_syllable last (glyph 5 0 0) ∷ []
+
+abbrev two_syllables : ℕ → Glyphs
+two_syllables last = of_syllable 17 (glyph 4 0 0) ∷ of_syllable last (glyph 5 0 0) ∷ []
+
+abbrev syllabic : Glyphs
+syllabic = three_syllables 17 ++ glyph 6 1 0 ∷ []
+
+syllable_gone : made empty 9 syllabic ≡ two_syllables 17 ++ glyph 6 1 0 ∷ []
+unfolding substituted applied lookup_applied lookup_stepped is_seen nested tried came_in nth_came sights_of sight_of_input sight_of_context flag_in ignores bisect first_from one_put multiple_put handed_on
+syllable_gone = refl
+
+numbered_otherwise : made empty 9 (three_syllables 49) ≡ two_syllables 49
+unfolding substituted applied lookup_applied lookup_stepped is_seen nested tried came_in nth_came sights_of sight_of_input sight_of_context flag_in ignores bisect first_from one_put multiple_put handed_on
+numbered_otherwise = refl
+
+clear_at_three : (n : ℕ) → 0 < n → n < 4 → IsClear syllabic n → n ≡ 3
+clear_at_three zero some few clear = absurd (omega (arith, some))
+clear_at_three (suc zero) some few clear = absurd (clear.differ refl)
+clear_at_three (suc (suc zero)) some few clear = absurd (clear.differ refl)
+clear_at_three (suc (suc (suc zero))) some few clear = refl
+clear_at_three (suc (suc (suc (suc n)))) some few clear = absurd (omega (arith, few))
+
+row_syllables : (numbered : Numbering) → ((list : List LigProps) → numbered list list ≡ true)
+    → LookupLeaves numbered (text_of 9 syllabic) (substituted_by [] (sequencing empty)) lookup (text_of 9 syllabic) → ⊥
+row_syllables numbered alike leaves =
+    let front : Glyphs = two_syllables 17 in
+    let back : Glyphs = glyph 6 1 0 ∷ [] in
+    let it = leaves front back (subst (λ gs. CutWhereClear gs front back) (sym syllable_gone) (record {
+      parts = refl;
+      some_in_front = omega arith;
+      some_behind = omega arith;
+      clear = record { differ = λ e. absurd (omega (arith, e)); unflagged = refl };
+    })) in
+    let cut = it.pieces in
+    let long : length it.before ≡ 3 = clear_at_three (length it.before) cut.some_in_front
+    (omega (arith, ap length cut.parts, length-append it.before it.behind, cut.some_behind)) cut.clear in
+    let is : three_syllables 17 ≡ it.before = ap (take 3) cut.parts ∙ take_at it.before it.behind 3 long in
+    let piece : IsPiece numbered (text_of 9 syllabic) it.before (text_of 9 (three_syllables 49)) =
+    subst (λ gs. IsPiece numbered (text_of 9 syllabic) gs (text_of 9 (three_syllables 49))) is (record {
+      same = record { glyphs = (refl, refl); numbers = alike _ };
+      level = refl;
+      direction = refl;
+      script = refl;
+      room = refl;
+      positions = refl;
+    }) in
+    let alone = subst (AreAsIn numbered front) numbered_otherwise (it.first (text_of 9 (three_syllables 49)) piece) in
+    absurd (omega (arith, ap length alone.glyphs.0))
