@@ -20,4 +20,5 @@ pub mod PlainRewriting
 pub mod PlainHangul
 pub mod PlainProved
 pub mod UnturnedTexts
+mod PlainRows
 mod EquivalenceRows
