@@ -143,7 +143,7 @@ fn first_candidate(search: BaseSearch, glyphs: &[hb_glyph_info_t], start: usize)
 fn stops_search(glyphs: &[hb_glyph_info_t], place: usize) -> bool
     ensures { result ≡ stops_search glyphs.now place }
 {
-    place > 0 && is_of_category(glyphs, place, OT_ZWJ) && is_of_category(glyphs, place - 1, OT_H)
+    is_of_category(glyphs, place, OT_ZWJ) && place > 0 && is_of_category(glyphs, place - 1, OT_H)
 }
 
 // Whether there is a consonant at this place that may be the base.

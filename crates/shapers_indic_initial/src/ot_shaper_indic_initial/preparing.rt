@@ -200,7 +200,7 @@ fn put_joiner_first(
 }
 
 // The move of the H after the base, by the older specification.
-#[inline]
+#[inline(always)]
 fn place_halant(
     is_old_spec: bool,
     script: Option<Script>,

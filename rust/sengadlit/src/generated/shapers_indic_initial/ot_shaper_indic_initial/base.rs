@@ -111,7 +111,7 @@ fn first_candidate(search: BaseSearch, glyphs: &[GlyphInfo], start: usize) -> Op
 // follows (09B0 200D 09CD 09AF), and the search goes on.
 #[inline]
 fn stops_search(glyphs: &[GlyphInfo], place: usize) -> bool {
-    place > 0 && is_of_category(glyphs, place, OT_ZWJ) && is_of_category(glyphs, place - 1, OT_H)
+    is_of_category(glyphs, place, OT_ZWJ) && place > 0 && is_of_category(glyphs, place - 1, OT_H)
 }
 
 // Whether there is a consonant at this place that may be the base.
