@@ -22,6 +22,7 @@ use Rattle.shapers_arabic.proofs.FormedParts.{text_by}
 use Rattle.shapers_arabic.proofs.JoiningLaws.{length-forms_of, text_long}
 use Rattle.shapers_arabic.proofs.SoundOrder.{calls-in_order}
 use Rattle.shapers_universal.specs.UniversalMasks.{MasksAreSet, categorized, with_categories}
+use Rattle.shapers_universal.proofs.MaskLemmas.{joined_behind}
 use Rattle.shapers_arabic.specs.PlanData.{breaks_of, masks_of}
 use Rattle.shapers_universal.specs.PlanData.{arabic_of}
 use Rattle.rustybuzz_shapers.specs.Again.{MasksOnce}
@@ -132,38 +133,10 @@ joined-again breaks masks script joining general old mid new first second =
     second ∙ ap after first ∙ joined-once breaks masks script joining general old ∙ sym first
 
 -- categories
-category-ors : (f : ℕ → ℕ) (ns : List ℕ) (gs : Glyphs) → map (categorized f) (ors ns gs) ≡ ors ns
-    (map (categorized f) gs)
-category-ors f [] gs = refl
-category-ors f (n ∷ ns) [] = refl
-category-ors f (n ∷ ns) (g ∷ gs) = ap (λ hs. with_bits n (categorized f g) ∷ hs) (category-ors f ns gs)
-
-category-formed : (f : ℕ → ℕ) (masks fs : List ℕ) (gs : Glyphs) → map (categorized f)
-    (with_joining_forms masks fs gs) ≡ with_joining_forms masks fs (map (categorized f) gs)
-category-formed f masks [] gs = refl
-category-formed f masks (k ∷ fs) [] = refl
-category-formed f masks (k ∷ fs) (g ∷ gs) = ap (λ hs. with_form masks k (categorized f g) ∷ hs)
-    (category-formed f masks fs gs)
-
 category-twice : (f : ℕ → ℕ) (gs : Glyphs) → map (categorized f) (map (categorized f) gs) ≡ map
     (categorized f) gs
 category-twice f [] = refl
 category-twice f (g ∷ gs) = ap (λ hs. categorized f g ∷ hs) (category-twice f gs)
-
-category-clusters : (f : ℕ → ℕ) (gs : Glyphs) → clusters (map (categorized f) gs) ≡ clusters gs
-category-clusters f [] = refl
-category-clusters f (g ∷ gs) = ap (λ cs. g.cluster ∷ cs) (category-clusters f gs)
-
-category-joined : (f : ℕ → ℕ) (breaks : BreakFlags) (masks : List ℕ) (flags : BufferFlags) (script : Option Script)
-    (text : Text) (gs : Glyphs) → map (categorized f) (joined_glyphs breaks masks flags script text gs)
-    ≡ joined_glyphs breaks masks flags script text (map (categorized f) gs)
-category-joined f breaks masks flags script text gs =
-    let concat = has_flag flags_concat flags in
-    let tatweel = has_flag flags_tatweel flags in
-    let formed = with_joining_forms masks (forms_of script text) gs in
-    flags-pass concat tatweel (map (categorized f)) (category-ors f) (flag_calls breaks script text) formed
-    (calls-in_order breaks script text) (category-clusters f formed)
-    ∙ ap (flags_called_by concat tatweel breaks script text) (category-formed f masks (forms_of script text) gs)
 
 pub universal-again : (p : Option arabic_shape_plan_t) (script : Option Script) (tables : CharacterTables)
     (old mid new : Buffer) → MasksAreSet p script tables old mid → MasksAreSet p script tables mid new → new ≡ mid
@@ -179,7 +152,7 @@ universal-again (Some p) script tables old mid new first second =
     let stays : with_categories tables mid ≡ mid =
     ap (with_categories tables) first.0
     ∙ ap (λ (gs : Glyphs). let c : Buffer = record old { glyphs = gs } in c)
-    (category-joined tables.universal p.break_flags p.mask_array b.flags script text b.glyphs ∙ ap joined
+    (joined_behind tables.universal p.break_flags p.mask_array b.flags script text b.glyphs ∙ ap joined
     (category-twice tables.universal old.glyphs))
     ∙ sym first.0 in
     joined-again p.break_flags p.mask_array script tables.joining tables.general b mid new first.0

@@ -7,7 +7,6 @@ use shapers_arabic::ot_shaper_arabic::setup_masks_inner;
 use shapers_base::buffer::{GlyphChange, change_each_in, hb_buffer_t, hb_glyph_info_t};
 use shapers_base::font::Tables;
 use shapers_base::plan::{PlanData, hb_ot_shape_plan_t};
-use std::mem;
 
 /// Gives each letter its form, the form's mask and the glyph flags of joining, where the plan has a
 /// plan of Arabic, and each glyph the category of its character in the universal shaper. It can't
@@ -24,12 +23,10 @@ pub fn setup_masks<T: Tables>(plan: &hb_ot_shape_plan_t, tables: &T, buffer: &mu
     match &plan.plan_data {
         PlanData::Universal(universal_plan) => match &universal_plan.arabic_plan {
             Some(arabic_plan) => {
-                // (tables that panic leave the empty buffer, also at a letter around the text)
-                let empty = hb_buffer_t::new(buffer.alloc(), buffer.max_len());
-                let mut text = mem::replace(buffer, empty);
-                set_categories(tables, &mut text);
-                setup_masks_inner(arabic_plan, plan.script, &mut text, tables);
-                *buffer = text;
+                // (joining reads the letters around the text before it writes: tables that panic
+                // there leave the text as it was, and elsewhere an empty buffer)
+                setup_masks_inner(arabic_plan, plan.script, buffer, tables);
+                set_categories(tables, buffer);
             }
             None => set_categories(tables, buffer),
         },

@@ -6,7 +6,6 @@ use crate::generated::shapers_arabic::ot_shaper_arabic::setup_masks_inner;
 use crate::generated::shapers_base::buffer::{Buffer, GlyphChange, GlyphInfo, change_each_in};
 use crate::generated::shapers_base::font::Tables;
 use crate::generated::shapers_base::plan::{Plan, PlanData};
-use core::mem;
 
 /// Gives each letter its form, the form's mask and the glyph flags of joining, where the plan has a
 /// plan of Arabic, and each glyph the category of its character in the universal shaper. It can't
@@ -34,12 +33,10 @@ pub fn setup_masks<T: Tables>(plan: &Plan, tables: &T, buffer: &mut Buffer) {
     match &plan.plan_data {
         PlanData::Universal(universal_plan) => match &universal_plan.arabic_plan {
             Some(arabic_plan) => {
-                // (tables that panic leave the empty buffer, also at a letter around the text)
-                let empty = Buffer::new(buffer.alloc(), buffer.max_len());
-                let mut text = mem::replace(buffer, empty);
-                set_categories(tables, &mut text);
-                setup_masks_inner(arabic_plan, plan.script, &mut text, tables);
-                *buffer = text;
+                // (joining reads the letters around the text before it writes: tables that panic
+                // there leave the text as it was, and elsewhere an empty buffer)
+                setup_masks_inner(arabic_plan, plan.script, buffer, tables);
+                set_categories(tables, buffer);
             }
             None => set_categories(tables, buffer),
         },
