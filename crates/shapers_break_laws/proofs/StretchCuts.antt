@@ -352,26 +352,26 @@ cut_in_others how xs others tiles rest some os ts behind follows =
           ∙ ap (stretched_part how) (append-nil others) ∙ made_without_run how others yo)))
       | inl run ↦
           let r = run_split wordly (xs ++ others) in
-          let parts_os : list_all other (r.front ++ r.run) ≡ true = ap (list_all other) (sym r.whole) ∙ os in
-          let part : stretched_part how ((xs ++ others) ++ tiles) ≡ r.front ++ run_made how r.run tiles =
+          let parts_os : list_all other (r.front ++ r.sequence) ≡ true = ap (list_all other) (sym r.whole) ∙ os in
+          let part : stretched_part how ((xs ++ others) ++ tiles) ≡ r.front ++ run_made how r.sequence tiles =
           ap (λ l. stretched_part how (l ++ tiles)) r.whole
-          ∙ made_with_run how r.front r.run tiles parts_os ts run r.stops r.passes in
+          ∙ made_with_run how r.front r.sequence tiles parts_os ts run r.stops r.passes in
           elim (cases_lt (length r.front) (length xs)) [
             | inl inside ↦
-                let (w, (first, second)) = two_cuts r.front xs r.run others (sym r.whole) (omega (arith, inside)) in
-                inr (inside_run how xs ((others ++ tiles) ++ rest) r.front r.run tiles w (others ++ tiles) rest
+                let (w, (first, second)) = two_cuts r.front xs r.sequence others (sym r.whole) (omega (arith, inside)) in
+                inr (inside_run how xs ((others ++ tiles) ++ rest) r.front r.sequence tiles w (others ++ tiles) rest
                 (ap (λ l. l ++ tiles) second ∙ append_assoc w others tiles)
                 (omega (arith, ap length first, length-append r.front w, inside)) behind first refl
                 (whole ∙ ap (λ l. l ++ stretched how rest) part))
             | inr before ↦
-                let (bs, (first, second)) = two_cuts xs r.front others r.run r.whole before in
-                let own : list_all other (bs ++ r.run) ≡ true = ap (list_all other) (sym second) ∙ yo in
+                let (bs, (first, second)) = two_cuts xs r.front others r.sequence r.whole before in
+                let own : list_all other (bs ++ r.sequence) ≡ true = ap (list_all other) (sym second) ∙ yo in
                 let stops = stops_behind wordly xs bs (ap (suffix_len wordly) (sym first) ∙ r.stops) in
                 joined (part
-                ∙ ap (λ l. l ++ run_made how r.run tiles) first
-                ∙ append_assoc xs bs (run_made how r.run tiles)
+                ∙ ap (λ l. l ++ run_made how r.sequence tiles) first
+                ∙ append_assoc xs bs (run_made how r.sequence tiles)
                 ∙ ap (λ l. xs ++ l) (sym (ap (λ l. stretched_part how (l ++ tiles)) second
-                ∙ made_with_run how bs r.run tiles own ts run stops r.passes)))
+                ∙ made_with_run how bs r.sequence tiles own ts run stops r.passes)))
           ]
     ]
   where
@@ -387,17 +387,17 @@ cut_in_tiles how others ts us rest os all some behind follows =
     let r = run_split wordly others in
     let tiles = ts ++ us in
     let many : 0 < length tiles = omega (arith, length-append ts us, some) in
-    let parts_os : list_all other (r.front ++ r.run) ≡ true = ap (list_all other) (sym r.whole) ∙ os in
+    let parts_os : list_all other (r.front ++ r.sequence) ≡ true = ap (list_all other) (sym r.whole) ∙ os in
     let text : (others ++ ts) ++ (us ++ rest) ≡ (others ++ tiles) ++ rest =
     sym (append_assoc (others ++ ts) us rest) ∙ ap (λ l. l ++ rest) (append_assoc others ts us) in
-    inr (inside_run how (others ++ ts) (us ++ rest) r.front r.run tiles (r.run ++ ts) us rest
-    (sym (append_assoc r.run ts us))
-    (omega (arith, length-append r.run ts, some)) behind
-    (ap (λ l. l ++ ts) r.whole ∙ append_assoc r.front r.run ts) refl
+    inr (inside_run how (others ++ ts) (us ++ rest) r.front r.sequence tiles (r.sequence ++ ts) us rest
+    (sym (append_assoc r.sequence ts us))
+    (omega (arith, length-append r.sequence ts, some)) behind
+    (ap (λ l. l ++ ts) r.whole ∙ append_assoc r.front r.sequence ts) refl
     (ap (stretched how) text
     ∙ stretched_first how others tiles rest os all (omega (arith, length-append others tiles, many)) follows
     ∙ ap (λ l. l ++ stretched how rest) (ap (λ l. stretched_part how (l ++ tiles)) r.whole
-    ∙ made_with_run how r.front r.run tiles parts_os all many r.stops r.passes)))
+    ∙ made_with_run how r.front r.sequence tiles parts_os all many r.stops r.passes)))
 
 cut_in_part : (how : Laying) (xs zs others tiles rest : List Cell) → 0 < length xs → 0 < length zs
     → others ++ tiles ≡ xs ++ zs → list_all other others ≡ true → list_all tile tiles ≡ true → Follows tiles rest
