@@ -1,1 +1,2 @@
 mod ChoiceRows
+mod OwnScripts

@@ -2,7 +2,7 @@
 //! font (HarfBuzz's choice).
 #![tactic(auto)]
 
-ghost use Rattle.std.specs.Prelude.{◌≡◌};
+ghost use Rattle.std.specs.Prelude.{◌≡◌, if◌then◌else◌};
 ghost use Rattle.shapers_choice.specs.Choice.{arabic_for, indic_for, indic_scripts, is_among, is_default, is_newest, is_tag, myanmar_for, own_for, shaper_for, syriac_for, universal_for, universal_scripts};
 
 use rustybuzz_shapers::shaper::hb_ot_shaper_t;
@@ -139,10 +139,7 @@ pub fn shaper_for_script(
     if is_indic(script) {
         return indic_for(chosen);
     }
-    if is_universal(script) {
-        return universal_for(chosen);
-    }
-    own_for(script)
+    own_or_universal(script, chosen)
 }
 
 fn is_indic(script: Script) -> bool
@@ -219,6 +216,21 @@ fn indic_for(chosen: Option<hb_tag_t>) -> Option<hb_ot_shaper_t>
         return Some(hb_ot_shaper_t::Universal);
     }
     Some(hb_ot_shaper_t::Indic)
+}
+
+// The scripts of the universal shaper, and those with a shaper of their own, which are asked for first
+// since they are few.
+fn own_or_universal(script: Script, chosen: Option<hb_tag_t>) -> Option<hb_ot_shaper_t>
+    ensures { result ≡ (if is_among universal_scripts script then universal_for chosen
+        else own_for script) }
+{
+    if let Some(shaper) = own_for(script) {
+        return Some(shaper);
+    }
+    if is_universal(script) {
+        return universal_for(chosen);
+    }
+    None
 }
 
 fn universal_for(chosen: Option<hb_tag_t>) -> Option<hb_ot_shaper_t>

@@ -146,10 +146,7 @@ pub fn shaper_for_script(
     if is_indic(script) {
         return indic_for(chosen);
     }
-    if is_universal(script) {
-        return universal_for(chosen);
-    }
-    own_for(script)
+    own_or_universal(script, chosen)
 }
 
 fn is_indic(script: Script) -> bool {
@@ -208,6 +205,18 @@ fn indic_for(chosen: Option<Tag>) -> Option<Shaper> {
         return Some(Shaper::Universal);
     }
     Some(Shaper::Indic)
+}
+
+// The scripts of the universal shaper, and those with a shaper of their own, which are asked for first
+// since they are few.
+fn own_or_universal(script: Script, chosen: Option<Tag>) -> Option<Shaper> {
+    if let Some(shaper) = own_for(script) {
+        return Some(shaper);
+    }
+    if is_universal(script) {
+        return universal_for(chosen);
+    }
+    None
 }
 
 fn universal_for(chosen: Option<Tag>) -> Option<Shaper> {
