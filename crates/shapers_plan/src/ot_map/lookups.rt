@@ -7,7 +7,7 @@ ghost use Rattle.shapers_plan.specs.Stages.{applied_by, feature_lookups, is_of_s
 
 use super::FontFeatures;
 use super::masks::{F_RANDOM, MappedFeature, lookups_of};
-use super::ordered::{Numbered, put_in_order};
+use super::ordered::{Last, Numbered, put_in_order};
 use super::requests::FeatureInfo;
 use shapers_base::buffer::{ShaperError, hb_tag_t};
 use shapers_base::map::{F_MANUAL_ZWJ, F_MANUAL_ZWNJ, F_PER_SYLLABLE, TableIndex};
@@ -102,6 +102,7 @@ fn add_lookups(
         OnOk result (list.new.items ≡ whole) }
     ensures refusal { IsOkUnless result Memory }
 {
+    let mut last = Last::NONE;
     for index in indices {
         let lookup = StageLookup {
             index: *index,
@@ -111,7 +112,7 @@ fn add_lookups(
             random: like.random,
             per_syllable: like.per_syllable,
         };
-        put_in_order(list, lookup)?;
+        put_in_order(list, &mut last, lookup)?;
     }
     Ok(())
 }

@@ -3,7 +3,7 @@ ghost use Rattle.std.specs.Prelude.{◌≡◌, IfOk, IsOkUnless};
 ghost use Rattle.shapers_buffer.specs.declared.buffer.refusal.ShaperError.TheVariants.{Memory};
 ghost use Rattle.shapers_plan.specs.Requests.{info_of, joined_by_tag};
 
-use super::ordered::{Numbered, put_in_order};
+use super::ordered::{Last, Numbered, put_in_order};
 use shapers_base::buffer::{ShaperError, hb_tag_t};
 use shapers_base::map::{F_GLOBAL, F_HAS_FALLBACK};
 use shapers_base::plan::Request;
@@ -29,6 +29,7 @@ pub(super) struct FeatureInfo {
 }
 
 impl FeatureInfo {
+    #[inline]
     fn new(tag: hb_tag_t, flags: u32, value: u32, stage: usize) -> Self
         ensures { result ≡ info_of stage tag flags value }
     {
@@ -52,10 +53,12 @@ impl Numbered for FeatureInfo {
 
     ghost joined = { joined_infos };
 
+    #[inline]
     fn number(&self) -> u32 {
         u32::from_be_bytes(self.tag.0)
     }
 
+    #[inline]
     fn joined(self, later: Self) -> Self {
         FeatureInfo {
             tag: self.tag,
@@ -90,11 +93,13 @@ pub(super) fn joined_by_tag(
     ensures refusal { IsOkUnless result Memory }
 {
     let mut infos = Vec::with_capacity(alloc, requests.len())?;
+    let mut last = Last::NONE;
     let mut stage = 0;
     for request in requests {
         match *request {
             Request::Feature(tag, flags, value) => {
-                put_in_order(&mut infos, FeatureInfo::new(tag, flags, value, stage))?;
+                let info = FeatureInfo::new(tag, flags, value, stage);
+                put_in_order(&mut infos, &mut last, info)?;
             }
             Request::Pause(_) => stage += 1,
         }

@@ -8,6 +8,7 @@ ghost use Rattle.shapers_plan.specs.Collecting.{along_lines, request_of_user, be
 
 use super::UserFeature;
 use crate::ot_map::{F_GLOBAL_SEARCH, F_RANDOM};
+use arrayvec::ArrayVec;
 use rustybuzz_shapers::shaper::hb_ot_shaper_t;
 use shapers_base::buffer::{Direction, Script, ShaperError, hb_tag_t};
 use shapers_base::font::hb_font_t;
@@ -123,13 +124,16 @@ fn collect_before_shaper(
     ensures ok { OnOk result (planner.new ≡ with_requests (before_shaper direction) planner.old) }
     ensures refusal { IsOkUnless result Memory }
 {
-    planner.add_requests(&FIRST)?;
+    // (at one go, so that the planner's list grows once)
+    let mut requests: ArrayVec<Request, 11> = ArrayVec::new();
+    requests.try_extend_from_slice(&FIRST).unwrap();
     match direction {
-        Direction::LeftToRight => planner.add_requests(&LEFT_TO_RIGHT)?,
-        Direction::RightToLeft => planner.add_requests(&RIGHT_TO_LEFT)?,
+        Direction::LeftToRight => requests.try_extend_from_slice(&LEFT_TO_RIGHT).unwrap(),
+        Direction::RightToLeft => requests.try_extend_from_slice(&RIGHT_TO_LEFT).unwrap(),
         _ => {}
     }
-    planner.add_requests(&BEFORE_SHAPER)
+    requests.try_extend_from_slice(&BEFORE_SHAPER).unwrap();
+    planner.add_requests(requests.as_slice())
 }
 
 fn collect_behind_shaper(

@@ -167,6 +167,7 @@ impl ShapePlanBuilder<'_> {
     /// # Errors
     ///
     /// [`ShaperError::Memory`].
+    #[inline]
     pub fn build(self, face: &Face<'_>) -> Result<ShapePlan, ShaperError> {
         let of_script = || {
             self.script

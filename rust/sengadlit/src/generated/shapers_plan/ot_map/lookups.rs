@@ -6,7 +6,7 @@ use crate::support::prelude::*;
 
 use super::FontFeatures;
 use super::masks::{F_RANDOM, MappedFeature, lookups_of};
-use super::ordered::{Numbered, put_in_order};
+use super::ordered::{Last, Numbered, put_in_order};
 use super::requests::FeatureInfo;
 use crate::generated::shapers_base::buffer::{ShaperError, Tag};
 use crate::generated::shapers_base::map::{
@@ -90,6 +90,7 @@ fn add_lookups(
     like: StageLookup,
     indices: &[u16],
 ) -> Result<(), ShaperError> {
+    let mut last = Last::NONE;
     for index in indices {
         let lookup = StageLookup {
             index: *index,
@@ -99,7 +100,7 @@ fn add_lookups(
             random: like.random,
             per_syllable: like.per_syllable,
         };
-        put_in_order(list, lookup)?;
+        put_in_order(list, &mut last, lookup)?;
     }
     Ok(())
 }

@@ -4,7 +4,7 @@
 
 use crate::support::prelude::*;
 
-use super::ordered::{Numbered, put_in_order};
+use super::ordered::{Last, Numbered, put_in_order};
 use crate::generated::shapers_base::buffer::{ShaperError, Tag};
 use crate::generated::shapers_base::map::{F_GLOBAL, F_HAS_FALLBACK};
 use crate::generated::shapers_base::plan::Request;
@@ -30,6 +30,7 @@ pub(super) struct FeatureInfo {
 }
 
 impl FeatureInfo {
+    #[inline]
     fn new(tag: Tag, flags: u32, value: u32, stage: usize) -> Self {
         let is_global = flags & F_GLOBAL != 0;
         FeatureInfo {
@@ -45,10 +46,12 @@ impl FeatureInfo {
 }
 
 impl Numbered for FeatureInfo {
+    #[inline]
     fn number(&self) -> u32 {
         u32::from_be_bytes(self.tag.0)
     }
 
+    #[inline]
     fn joined(self, later: Self) -> Self {
         FeatureInfo {
             tag: self.tag,
@@ -82,11 +85,13 @@ pub(super) fn joined_by_tag(
     requests: &[Request],
 ) -> Result<Vec<FeatureInfo>, ShaperError> {
     let mut infos = Vec::with_capacity(alloc, requests.len())?;
+    let mut last = Last::NONE;
     let mut stage = 0;
     for request in requests {
         match *request {
             Request::Feature(tag, flags, value) => {
-                put_in_order(&mut infos, FeatureInfo::new(tag, flags, value, stage))?;
+                let info = FeatureInfo::new(tag, flags, value, stage);
+                put_in_order(&mut infos, &mut last, info)?;
             }
             Request::Pause(_) => stage += 1,
         }

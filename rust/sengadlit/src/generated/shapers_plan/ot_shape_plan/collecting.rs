@@ -11,6 +11,7 @@ use crate::generated::shapers_base::plan::{Planner, Request};
 use crate::generated::shapers_choice::shaper_for_script;
 use crate::generated::shapers_plan::ot_map::{F_GLOBAL_SEARCH, F_RANDOM};
 use crate::support::alloc::Global;
+use crate::support::arrayvec::ArrayVec;
 
 // Variations of the font stand in a stage of their own.
 const FIRST: [Request; 2] = [
@@ -108,13 +109,16 @@ pub(super) fn collect<F: Font>(
 }
 
 fn collect_before_shaper(direction: Direction, planner: &mut Planner) -> Result<(), ShaperError> {
-    planner.add_requests(&FIRST)?;
+    // (at one go, so that the planner's list grows once)
+    let mut requests: ArrayVec<Request, 11> = ArrayVec::new();
+    requests.try_extend_from_slice(&FIRST).unwrap();
     match direction {
-        Direction::LeftToRight => planner.add_requests(&LEFT_TO_RIGHT)?,
-        Direction::RightToLeft => planner.add_requests(&RIGHT_TO_LEFT)?,
+        Direction::LeftToRight => requests.try_extend_from_slice(&LEFT_TO_RIGHT).unwrap(),
+        Direction::RightToLeft => requests.try_extend_from_slice(&RIGHT_TO_LEFT).unwrap(),
         _ => {}
     }
-    planner.add_requests(&BEFORE_SHAPER)
+    requests.try_extend_from_slice(&BEFORE_SHAPER).unwrap();
+    planner.add_requests(requests.as_slice())
 }
 
 fn collect_behind_shaper(direction: Direction, planner: &mut Planner) -> Result<(), ShaperError> {
