@@ -51,10 +51,11 @@ pub fn try_shape(
         .direction(direction)
         .script(script)
         .language(text.language());
-    match builder.features(features).build(face) {
-        Ok(plan) => try_shape_with_plan(face, &plan, text),
+    // (matched as it lies, so that the plan isn't moved)
+    match &builder.features(features).build(face) {
+        Ok(plan) => try_shape_with_plan(face, plan, text),
         Err(refusal) => Err(ShapeError {
-            error: refusal.into(),
+            error: (*refusal).into(),
             text,
         }),
     }
