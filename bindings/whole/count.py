@@ -8,6 +8,8 @@
                                           counts the second set: other fonts, other words and other scripts
   count.py count FOLDER LOADER --lengths [SCRIPT..]
                                           counts a short and a long text of each script, by character
+  count.py count FOLDER LOADER --times [SCRIPT..]
+                                          times the words and lines, with nothing else on the machine
 
 Each program shapes a file once and three times; half of the difference is what one time takes, so that starting, reading the
 font and what is made once don't count. What all three print, the sum of the glyphs' numbers, must be the same.
@@ -18,8 +20,11 @@ import math
 import operator
 import pathlib
 import re
+import statistics
 import subprocess
 import sys
+import time
+import unicodedata
 
 NOTO = "usr/share/fonts/truetype/noto/Noto"
 # Each script's texts, with its code, its direction and its font.
@@ -65,6 +70,8 @@ WORDS, LINES, LENGTH = 60, 6, 130
 LENGTHS = [100, 100_000]
 # How much more a character of the long text may take: it has glyphs of more lookups.
 MOST_MORE = 1.25
+# How many seconds a run that is timed takes about, and how many rounds there are, in which the programs take turns.
+SECONDS, ROUNDS = 0.2, 9
 PROGRAMS = ["sengadlit", "harfrust", "harfbuzz"]
 WAYS = ["kept", "cache", "prepared", "anew", "parsed"]
 # The two others have one face, which isn't prepared.
@@ -90,8 +97,14 @@ def lines_of(words, length=LENGTH):
             line = ""
 
 
+def has_doubled_sign(word):
+    """Whether a sign stands twice: a broken syllable, whose dotted circle the peers leave out where it has the number of the last."""
+    return any(a == b and unicodedata.category(a).startswith("M") for a, b in zip(word, word[1:]))
+
+
 def texts_of(words, length):
     """Words of a script as texts of about so many characters, or again and again as one."""
+    words = [word for word in words if not has_doubled_sign(word)]
     texts = list(lines_of(words, length))
     line = " ".join(words)
     return texts or [f"{line} " * (length // len(line))]
@@ -126,6 +139,13 @@ def collected(command):
     return int(re.search(r"Collected : (\d+)", ran.stderr).group(1)), ran.stdout.strip()
 
 
+def seconds(command):
+    """How long a command takes."""
+    start = time.perf_counter()
+    subprocess.run(command, capture_output=True, check=True)
+    return time.perf_counter() - start
+
+
 class Count:
     def __init__(self, folder, loader):
         self.folder = folder
@@ -135,13 +155,25 @@ class Count:
             "harfbuzz": [*loader.split(), f"{folder}/harfbuzz"],
         }
 
+    def command(self, job, times):
+        """The command that shapes a file so many times."""
+        program, way, (script, code, direction, font), kind = job
+        return [*self.commands[program], font, str(self.folder / "texts" / f"{script}.{kind}"), str(times), way, code, direction]
+
+    def texts(self, job):
+        """How many texts the file has, where what is counted is a text."""
+        _, way, (script, *_), kind = job
+        return 1 if way in (FIRST, PREPARE) else len((self.folder / "texts" / f"{script}.{kind}").read_text("utf-8").splitlines())
+
     def text(self, job):
         """Instructions of a text, the mean over a file, and the sum that the program prints."""
-        program, way, (script, code, direction, font), kind = job
-        texts = self.folder / "texts" / f"{script}.{kind}"
-        count = 1 if way in (FIRST, PREPARE) else len(texts.read_text("utf-8").splitlines())
-        one, three = (collected([*self.commands[program], font, str(texts), times, way, code, direction]) for times in "13")
-        return (three[0] - one[0]) / 2 / count, one[1]
+        one, three = (collected(self.command(job, times)) for times in (1, 3))
+        return (three[0] - one[0]) / 2 / self.texts(job), one[1]
+
+    def time(self, job, times):
+        """Nanoseconds of a text, where the file is shaped so many times more than once."""
+        once, more = (seconds(self.command(job, count)) for count in (1, times + 1))
+        return (more - once) / times / self.texts(job) * 1e9
 
 
 def jobs_of(rows):
@@ -225,14 +257,34 @@ def count_lengths(folder, loader, rows):
     return 1 if failed else 0
 
 
+def count_times(count, rows):
+    """Prints the nanoseconds of a text, the median of rounds in which the programs take turns, and the means of the ratios."""
+    print("\t".join(["script", "texts", "here", "HarfRust", "HarfBuzz"]))
+    ratios = {kind: [] for kind in KINDS}
+    for row in rows:
+        for kind in KINDS:
+            jobs = [(program, "kept", row, kind) for program in PROGRAMS]
+            times = math.ceil(SECONDS * 1e9 / (count.time(jobs[0], 100) * count.texts(jobs[0])))
+            rounds = [[count.time(job, times) for job in jobs] for _ in range(ROUNDS)]
+            own, *peers = map(statistics.median, zip(*rounds))
+            ratios[kind].append([own / peer for peer in peers])
+            print("\t".join([row[0], kind, f"{own:.0f}", *(f"{own / peer:.2f}" for peer in peers)]))
+    for kind, of_kind in ratios.items():
+        print("\t".join(["mean", kind, "", *(f"{mean(of_peer):.2f}" for of_peer in zip(*of_kind))]))
+    return 0
+
+
 def count(folder, loader, wanted):
-    lengths, wanted = "--lengths" in wanted, [word for word in wanted if word != "--lengths"]
+    lengths, times = "--lengths" in wanted, "--times" in wanted
+    wanted = [word for word in wanted if word not in ("--lengths", "--times")]
     file = "second" if wanted[:1] == ["--second"] else "scripts"
     wanted = [word for word in wanted if word != "--second"]
     rows = [tuple(line.split("\t")) for line in (folder / "texts" / file).read_text("utf-8").splitlines()]
     rows = [row for row in rows if not wanted or row[0] in wanted]
     if lengths:
         return count_lengths(folder, loader, rows)
+    if times:
+        return count_times(Count(folder, loader), rows)
     jobs = jobs_of(rows)
     with concurrent.futures.ThreadPoolExecutor(2) as pool:
         counts = dict(zip(jobs, pool.map(Count(folder, loader).text, jobs)))
