@@ -90,7 +90,7 @@ plain-text shaper plan font variants word low = record {
 
 -- ---- short words have short sequences of marks
 
-runs-within : (s i : ℕ) (ks : List ℕ) → s ≤ i → i - s + length ks ≤ 32
+pub runs-within : (s i : ℕ) (ks : List ℕ) → s ≤ i → i - s + length ks ≤ 32
     → list_all (λ (run : ℕ × ℕ). nat_le (run.1 - run.0) max_marks) (mark_sequences s i ks) ≡ true
 runs-within s i [] order few =
     let one : nat_le (i - s) 32 ≡ true = grind (arith, nat_tests) in

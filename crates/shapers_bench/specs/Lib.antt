@@ -1,6 +1,10 @@
+pub mod BorderedWords
 pub mod EditedKhmer
 pub mod EquivalentWords
+pub mod IndicWords
 pub mod Letters
 pub mod NormalWords
+pub mod PreparedWords
 pub mod Substituted
+pub mod UniversalWords
 pub mod Words

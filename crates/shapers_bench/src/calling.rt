@@ -1,6 +1,6 @@
 //! How a pipeline calls a hook, and what it reads in the hook's contract.
-ghost use Rattle.std.specs.Prelude.{◌≡◌, ◌<◌, [], All, IfOk, length};
-ghost use Rattle.rustybuzz_shapers.specs.Glyph.{clusters};
+ghost use Rattle.std.specs.Prelude.{◌≡◌, ◌<◌, [], All, Some, IfOk, length};
+ghost use Rattle.shapers_buffer.specs.Glyph.{clusters};
 
 use rustybuzz_shapers::buffer::{Script, ShaperError, hb_buffer_t, hb_glyph_info_t};
 use rustybuzz_shapers::font::hb_font_t;
@@ -26,7 +26,9 @@ pub fn thai_glyphs<F: hb_font_t>(
 }
 
 // The plan for a script where the font has no features.
-pub(crate) fn plain_plan(alloc: Global, script: Script) -> hb_ot_shape_plan_t {
+pub(crate) fn plain_plan(alloc: Global, script: Script) -> hb_ot_shape_plan_t
+    ensures { result.script ≡ Some script }
+{
     let map = hb_ot_map_t::new(
         Vec::new(alloc),
         Vec::new(alloc),

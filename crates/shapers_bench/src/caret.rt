@@ -1,6 +1,6 @@
 //! How a terminal finds where a caret may stand in a word, and what it reads in the contracts.
 ghost use Rattle.std.specs.Prelude.{◌≡◌, ◌≢◌, ◌<◌, ◌≤◌, [], ℕ, List, All, IfOk, IsOkUnless, length};
-ghost use Rattle.rustybuzz_shapers.specs.Glyph.{clusters};
+ghost use Rattle.shapers_buffer.specs.Glyph.{clusters};
 ghost use Rattle.shapers_buffer.specs.declared.buffer.refusal.ShaperError.TheVariants.{Memory};
 ghost use Rattle.shapers_bench.specs.Words.{word_in};
 ghost use Rattle.shapers_editing.specs.Carets.{IsCaretMap};
