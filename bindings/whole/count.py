@@ -264,7 +264,9 @@ def count_times(count, rows):
     for row in rows:
         for kind in KINDS:
             jobs = [(program, "kept", row, kind) for program in PROGRAMS]
-            times = math.ceil(SECONDS * 1e9 / (count.time(jobs[0], 100) * count.texts(jobs[0])))
+            times = 100
+            while seconds(count.command(jobs[0], times)) < SECONDS:
+                times *= 2
             rounds = [[count.time(job, times) for job in jobs] for _ in range(ROUNDS)]
             own, *peers = map(statistics.median, zip(*rounds))
             ratios[kind].append([own / peer for peer in peers])
