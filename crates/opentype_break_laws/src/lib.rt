@@ -16,8 +16,8 @@ pub use two_singles::substitute_two;
 /// results of the text side by side. One of ligatures (type 4) and one of sequences (type 2) do so in
 /// texts that take them piece by piece. So do the lookups of a run, where each of them is such at its
 /// text; and a text that is shaped by them may be broken at every clear place, from its fractions on
-/// and up to the last stage. By whoever compares numbers of ligatures by whether there is one,
-/// sequences may follow ligatures.
+/// and up to the last stage. Sequences may follow ligatures, if numbers of ligatures are compared only
+/// by whether a glyph has one.
 pub fn font_pieces_law()
     ensures lookups { FontLookupsLeavePieces }
     ensures runs { FontRunsLeavePieces }
