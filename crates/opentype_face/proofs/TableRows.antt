@@ -143,11 +143,16 @@ counts : map (λ count. subtables_in (words (7 ∷ 16 ∷ count ∷ 10 ∷ [])))
     ≡ 0 ∷ 1 ∷ 736 ∷ 4095 ∷ 4096 ∷ 4096 ∷ 4096 ∷ []
 counts = refl
 
+-- and by type: 0 and 10 are none
+counts_by_type : map (λ kind. subtables_in (words (kind ∷ 16 ∷ 3 ∷ 10 ∷ []))) (0 ∷ 1 ∷ 8 ∷ 9 ∷ 10 ∷ 256 ∷ 65535 ∷ [])
+    ≡ 0 ∷ 3 ∷ 3 ∷ 3 ∷ 0 ∷ 0 ∷ 0 ∷ []
+counts_by_type = refl
+
 -- counts of rules, of which the first 4,096 are read
 rule_counts : map (λ count. rule_count_in (words (count ∷ 7 ∷ []))) (0 ∷ 1 ∷ 1836 ∷ 4095 ∷ 4096 ∷ 4097 ∷ 65535 ∷ [])
     ≡ 0 ∷ 1 ∷ 1836 ∷ 4095 ∷ 4096 ∷ 4096 ∷ 4096 ∷ []
 rule_counts = refl
 
 -- the count stands in bytes 4 and 5, and what a lookup lacks of them reads as zero
-uncounted : map subtables_in ([] ∷ words (7 ∷ 16 ∷ []) ∷ (7 ∷ 7 ∷ 7 ∷ 7 ∷ 7 ∷ []) ∷ []) ≡ 0 ∷ 0 ∷ 1792 ∷ []
+uncounted : map subtables_in ([] ∷ words (7 ∷ 16 ∷ []) ∷ (0 ∷ 7 ∷ 7 ∷ 7 ∷ 7 ∷ []) ∷ []) ≡ 0 ∷ 0 ∷ 1792 ∷ []
 uncounted = refl

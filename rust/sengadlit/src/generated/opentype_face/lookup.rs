@@ -30,7 +30,11 @@ pub fn lookup(table: &[u8], index: u16) -> &[u8] {
 /// are spoilt could claim 65,535, which would be looked at for each glyph.
 const MOST_SUBTABLES: u16 = 4096;
 
-/// How many subtables a lookup has, those behind the first 4,096 left out.
+/// The last type of lookups, which GPOS alone has.
+const LAST_TYPE: u16 = 9;
+
+/// How many subtables a lookup has: none if OpenType has no lookups of its type, and those behind the
+/// first 4,096 left out.
 ///
 /// <details><summary>Contract</summary>
 ///
@@ -45,6 +49,10 @@ const MOST_SUBTABLES: u16 = 4096;
 /// </details>
 #[inline]
 pub fn subtable_count(lookup: &[u8]) -> u16 {
+    let kind = u16_at(lookup, 0);
+    if kind == 0 || kind > LAST_TYPE {
+        return 0;
+    }
     u16_at(lookup, 4).min(MOST_SUBTABLES)
 }
 
