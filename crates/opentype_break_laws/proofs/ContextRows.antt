@@ -21,7 +21,7 @@ use Rattle.opentype_gsub.specs.Came.{begun, came_in, nth_came}
 use Rattle.opentype_gsub.specs.Edits.{multiplied, new_props, replaced, sequence_glyph, sequence_glyphs}
 use Rattle.opentype_gsub.specs.Flagged.{unbroken}
 use Rattle.opentype_gsub.specs.Looked.{tried}
-use Rattle.opentype_gsub.specs.Machine.{climbing, frame_shifted, lookup_called, machine_stepped, nested, places_shifted, ran}
+use Rattle.opentype_gsub.specs.Machine.{climbing, frame_shifted, lookup_called, machine_stepped, nested, places_shifted, ran, turned}
 use Rattle.opentype_gsub.specs.Setting.{is_seen, sights_of}
 use Rattle.opentype_gsub.specs.Substituted.{applied, substituted}
 use Rattle.opentype_font.specs.Lookups.{substituted_by}
@@ -80,12 +80,12 @@ abbrev text : Glyphs
 text = glyph 1 0 0 ∷ glyph 2 1 0 ∷ []
 
 lengthened : made text ≡ four ++ five
-unfolding substituted applied lookup_applied lookup_stepped is_seen nested tried came_in nth_came begun unbroken is_short sights_of sight_of_input sight_of_context flag_in context_in kind_in first_at found_at around rule_in chained_in test_in reach_behind reach_before reach_from end_in input_in places_from next_from seen_by seen_as ignores may_pass bisect first_from ran machine_stepped lookup_called one_put multiple_put multiplied sequence_glyphs sequence_glyph replaced new_props frame_shifted places_shifted climbing
+unfolding substituted applied lookup_applied lookup_stepped is_seen nested tried came_in nth_came begun unbroken is_short sights_of sight_of_input sight_of_context flag_in context_in kind_in first_at found_at around rule_in chained_in test_in reach_behind reach_before reach_from end_in input_in places_from next_from seen_by seen_as ignores may_pass bisect first_from ran machine_stepped turned lookup_called one_put multiple_put multiplied sequence_glyphs sequence_glyph replaced new_props frame_shifted places_shifted climbing
 lengthened = refl
 
 -- by itself the 2 stays
 alone : first_number (made (glyph 2 1 0 ∷ [])) ≡ 2
-unfolding substituted applied lookup_applied lookup_stepped is_seen nested tried came_in nth_came begun unbroken is_short sights_of sight_of_input sight_of_context flag_in context_in kind_in first_at found_at around rule_in chained_in test_in reach_behind reach_before reach_from end_in input_in places_from next_from seen_by seen_as ignores may_pass bisect first_from ran machine_stepped lookup_called one_put multiple_put multiplied sequence_glyphs sequence_glyph replaced new_props frame_shifted places_shifted climbing
+unfolding substituted applied lookup_applied lookup_stepped is_seen nested tried came_in nth_came begun unbroken is_short sights_of sight_of_input sight_of_context flag_in context_in kind_in first_at found_at around rule_in chained_in test_in reach_behind reach_before reach_from end_in input_in places_from next_from seen_by seen_as ignores may_pass bisect first_from ran machine_stepped turned lookup_called one_put multiple_put multiplied sequence_glyphs sequence_glyph replaced new_props frame_shifted places_shifted climbing
 alone = refl
 
 row_lengthened : (numbered : Numbering) → ((list : List LigProps) → numbered list list ≡ true)

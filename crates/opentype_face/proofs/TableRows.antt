@@ -4,7 +4,7 @@ use Rattle.opentype_face.specs.Bytes.{u16_in, u32_in, u24_in, i16_in, table_at, 
 use Rattle.opentype_face.specs.Classes.{is_in_set, mark_set_count_in, props_of}
 use Rattle.opentype_face.specs.Cmap.{cmap_in}
 use Rattle.opentype_face.specs.Glyphs.{class_in, coverage_in}
-use Rattle.opentype_face.specs.Lookups.{lookup_in, mark_set_in, rule_count_in, subtable_in, subtables_in, type_in}
+use Rattle.opentype_face.specs.Lookups.{lookup_in, mark_set_in, operations_in, rule_count_in, subtable_in, subtables_in, type_in}
 use Rattle.opentype_face.specs.Ranges.{bisect}
 use Rattle.opentype_face.specs.Variants.{variant_in}
 use Rattle.opentype_face.specs.declared.variants.GlyphVariant.TheVariants.{NotFound, Found, UseDefault}
@@ -147,6 +147,11 @@ counts = refl
 counts_by_type : map (λ kind. subtables_in (words (kind ∷ 16 ∷ 3 ∷ 10 ∷ []))) (0 ∷ 1 ∷ 8 ∷ 9 ∷ 10 ∷ 256 ∷ 65535 ∷ [])
     ≡ 0 ∷ 3 ∷ 3 ∷ 3 ∷ 0 ∷ 0 ∷ 0 ∷ []
 counts_by_type = refl
+
+-- what a rule's lookup takes of the operations
+operations : map (λ count. operations_in (words (7 ∷ 16 ∷ count ∷ 10 ∷ []))) (0 ∷ 1 ∷ 3 ∷ 4 ∷ 7 ∷ 8 ∷ 736 ∷ 4095 ∷ 4096 ∷ 65535 ∷ [])
+    ≡ 1 ∷ 1 ∷ 1 ∷ 2 ∷ 2 ∷ 3 ∷ 185 ∷ 1024 ∷ 1025 ∷ 1025 ∷ []
+operations = refl
 
 -- counts of rules, of which the first 4,096 are read
 rule_counts : map (λ count. rule_count_in (words (count ∷ 7 ∷ []))) (0 ∷ 1 ∷ 1836 ∷ 4095 ∷ 4096 ∷ 4097 ∷ 65535 ∷ [])

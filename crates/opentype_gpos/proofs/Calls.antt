@@ -1,9 +1,11 @@
 -- Rules of contexts, as far as their lookups are applied.
-use Rattle.std.proofs.Common.{Bool, true, false, ◌==◌, ℕ, zero, suc, ◌+◌, ◌-◌, ◌<◌, ◌≤◌, ◌≡◌, List, [], ◌∷◌, ◌++◌, map, reverse, length, Option, None, Some, refl, sym, ap, ◌∙◌, arith, length-append}
+use Rattle.std.proofs.Common.{Bool, true, false, ◌==◌, ℕ, zero, suc, ◌+◌, ◌-◌, ◌*◌, nat_lt, ◌<◌, ◌≤◌, ◌≡◌, List, [], ◌∷◌, ◌++◌, map, reverse, length, Option, None, Some, refl, sym, ap, ◌∙◌, arith, length-append}
 use Rattle.std.proofs.lemmas.Bool.Decides.{nat_tests}
 use Rattle.std.specs.Option.{option_map}
 use Rattle.std.proofs.lemmas.List.{length-map, length-reverse, map-append, reverse-append}
 use Rattle.shapers_buffer.specs.Glyphs.{Glyphs}
+use Rattle.opentype_face.specs.Bytes.{u16_in}
+use Rattle.opentype_face.specs.Lookups.{lookup_in, operations_in}
 use Rattle.opentype_layout.specs.Rules.{Found, found}
 use Rattle.opentype_layout.specs.declared.rules.Matched.{Matched}
 use Rattle.opentype_gpos.specs.Called.{Work, record_made, records_made, rule_flagged, rule_made}
@@ -38,7 +40,9 @@ past_records count i each w le = let n : count - i ≡ 0 = omega arith in rw n (
 spent_record : (by_rule : Found → Work → Work) (s : Setting) (records places : List ℕ) (i : ℕ) (gs : Glyphs)
     (ps : Positions) → record_made by_rule s records places i (work gs ps 0) ≡ work gs ps 0
 unfolding record_made
-spent_record by_rule s records places i gs ps = refl
+spent_record by_rule s records places i gs ps =
+    let n = operations_in (lookup_in s.gpos (u16_in records (i * 4 + 2))) in
+    let e : nat_lt 0 n ≡ true = grind (arith, nat_tests) in rw e refl
 
 spent_records : (n : ℕ) (by_rule : Found → Work → Work) (s : Setting) (records places : List ℕ) (i : ℕ) (gs : Glyphs)
     (ps : Positions) → records_made n (record_made by_rule s records places) i (work gs ps 0) ≡ work gs ps 0

@@ -1,6 +1,6 @@
 -- Contexts of GPOS over bytes written out as OpenType lays them out. Glyph 5 is 10 units narrower by lookup 0, glyph 6
 -- goes 20 units up by lookup 1; lookups 2 and on are contexts that name these two.
-use Rattle.std.specs.Prelude.{◌≡◌, ◌/◌, ◌%◌, ℕ, pos, true, false, List, [], ◌∷◌, ◌++◌, refl}
+use Rattle.std.specs.Prelude.{◌≡◌, ◌/◌, ◌%◌, ℕ, pos, true, false, List, [], ◌∷◌, ◌++◌, flat_map, refl}
 use Rattle.shapers_buffer.specs.Glyph.{default_glyph, default_position}
 use Rattle.shapers_buffer.specs.Glyphs.{Glyph, Glyphs}
 use Rattle.shapers_buffer.specs.declared.buffer.glyph.GlyphPosition.{GlyphPosition}
@@ -176,6 +176,23 @@ one_left = refl
 none_left : record_made no_rule (setting []) records (0 ∷ 1 ∷ []) 1 (text 0) ≡ text 0
 unfolding record_made
 none_left = refl
+
+-- a lookup of eight subtables takes three operations; with two it isn't applied, and none is left
+abbrev wide_lookup : List ℕ
+wide_lookup = (0 ∷ 1 ∷ 0 ∷ 0 ∷ 0 ∷ 8 ∷ []) ++ flat_map (λ at. two at) (22 ∷ 22 ∷ 22 ∷ 22 ∷ 22 ∷ 22 ∷ 22 ∷ 22 ∷ [])
+    ++ (0 ∷ 1 ∷ 0 ∷ 8 ∷ 0 ∷ 4 ∷ 255 ∷ 246 ∷ []) ++ set_of 5
+
+abbrev to_wide : List ℕ
+to_wide = 0 ∷ 0 ∷ 0 ∷ 1 ∷ 0 ∷ 1 ∷ 0 ∷ 2 ∷ []
+
+three_left : record_made no_rule (setting wide_lookup) to_wide (0 ∷ 1 ∷ []) 1 (text 3)
+    ≡ record { glyphs = glyph 5 0 ∷ glyph 5 1 ∷ []; positions = wide ∷ narrow ∷ []; left = 0 }
+unfolding came_in nth_came sights_in sight_of_input sight_of_context flag_in bisect first_from record_made lookup_made moved value_added with_value one_move single_move tried
+three_left = refl
+
+two_left : record_made no_rule (setting wide_lookup) to_wide (0 ∷ 1 ∷ []) 1 (text 2) ≡ text 0
+unfolding record_made
+two_left = refl
 
 -- the input has one place, and none of number 1
 no_place : record_made no_rule (setting []) records (0 ∷ []) 1 (text 2) ≡ text 1

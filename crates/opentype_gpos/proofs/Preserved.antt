@@ -1,5 +1,5 @@
 -- What moves and flags keep of a text, lookups keep.
-use Rattle.std.proofs.Common.{ℕ, zero, suc, ◌+◌, ◌-◌, ◌<◌, ◌≤◌, ◌≡◌, ◌∙◌, ◌==◌, ◌&&◌, ◌⊎◌, min, nat_lt, is_some, inl, inr, Bool, true, false, List, [], length, map, Option, None, Some, if◌then◌else◌, refl, sym, ap, arith}
+use Rattle.std.proofs.Common.{ℕ, zero, suc, ◌+◌, ◌-◌, ◌*◌, ◌<◌, ◌≤◌, ◌≡◌, ◌∙◌, ◌&&◌, ◌⊎◌, min, nat_lt, is_some, inl, inr, Bool, true, false, List, [], length, map, Option, None, Some, if◌then◌else◌, refl, sym, ap, arith}
 use Rattle.std.proofs.lemmas.Grind.{common_steps}
 use Rattle.std.proofs.lemmas.List.{length-map}
 use Rattle.shapers_clusters.proofs.FlagCalls.{map-unsafe_to_concat_in}
@@ -7,7 +7,8 @@ use Rattle.shapers_buffer.specs.Buffer.{Buffer}
 use Rattle.shapers_buffer.specs.GlyphFlags.{unsafe_to_concat_in, with_bits}
 use Rattle.shapers_buffer.specs.Glyphs.{Glyph, Glyphs}
 use Rattle.shapers_buffer.specs.declared.buffer.level.Direction.{Direction}
-use Rattle.opentype_face.specs.Lookups.{lookup_in}
+use Rattle.opentype_face.specs.Bytes.{u16_in}
+use Rattle.opentype_face.specs.Lookups.{lookup_in, operations_in}
 use Rattle.opentype_layout.specs.Looking.{unjoined}
 use Rattle.opentype_layout.specs.Rules.{Found}
 use Rattle.opentype_layout.specs.declared.looking.Stretch.{Stretch}
@@ -110,7 +111,8 @@ record_keeps : (s : Setting) (P : Glyphs → Positions → Type 0) → IsKept s.
     (records places : List ℕ) (i : ℕ) (w : Work) → Holds P w → Holds P (record_made by_rule s records places i w)
 unfolding record_made
 record_keeps s P k by_rule each records places i w h =
-    choose (w.left == 0) P _ _ h (choose _ P _ _ (lookup_keeps s P k by_rule each _ _ (record w { left = w.left - 1 }) h) h)
+    let n = operations_in (lookup_in s.gpos (u16_in records (i * 4 + 2))) in
+    choose (nat_lt w.left n) P _ _ h (choose _ P _ _ (lookup_keeps s P k by_rule each _ _ (record w { left = w.left - n }) h) h)
 
 records_keep : (n : ℕ) (P : Glyphs → Positions → Type 0) (f : ℕ → Work → Work) →
     ((i : ℕ) (w : Work) → Holds P w → Holds P (f i w)) → (i : ℕ) (w : Work) → Holds P w →

@@ -20,7 +20,7 @@ use Rattle.opentype_gpos.specs.declared.pass.Sights.{Sights}
 abbrev pub passed : ℕ → Glyphs → Positions → Progress
 passed at gs ps = record { glyphs = gs; positions = ps; next = at + 1 }
 
--- A rule that fits at a place, with the lookups that it applies, in at most 4,096 calls and 64
+-- A rule that fits at a place, with the lookups that it applies, in at most 4,096 operations and 64
 -- levels deep. The text goes on behind its input.
 abbrev pub at_rule : Setting → Found → Glyphs → Positions → Progress
 at_rule s rule gs ps =

@@ -1,9 +1,9 @@
 -- Rules of contexts that fit, and the lookups that they apply.
-use Rattle.std.specs.Prelude.{ℕ, zero, suc, ◌+◌, ◌-◌, ◌*◌, ◌==◌, ◌⊎◌, nat_lt, true, List, length, slice_index, Option, None, Some, if◌then◌else◌}
+use Rattle.std.specs.Prelude.{ℕ, zero, suc, ◌+◌, ◌-◌, ◌*◌, ◌⊎◌, nat_lt, true, List, length, slice_index, Option, None, Some, if◌then◌else◌}
 use Rattle.std.proofs.Common.{inl, inr}
 use Rattle.shapers_buffer.specs.Glyphs.{Glyphs}
 use Rattle.opentype_face.specs.Bytes.{u16_in}
-use Rattle.opentype_face.specs.Lookups.{lookup_in}
+use Rattle.opentype_face.specs.Lookups.{lookup_in, operations_in}
 use Rattle.opentype_layout.specs.Rules.{Found}
 use Rattle.opentype_gpos.specs.Coming.{Setting, came_in, sights_in}
 use Rattle.opentype_gpos.specs.Moved.{Positions, flagged_up_to}
@@ -11,7 +11,7 @@ use Rattle.opentype_gpos.specs.Looked.{tried}
 use Rattle.opentype_gpos.specs.Making.{moved}
 use Rattle.opentype_gpos.specs.declared.moves.Move.{Move}
 
--- A text and its positions, and how many more lookups the rules at a place may apply.
+-- A text and its positions, and how many operations the rules at a place have left.
 pub record Work : Type 0 where
   pub glyphs : Glyphs
   pub positions : Positions
@@ -36,13 +36,15 @@ lookup_made by_rule s lookup at w =
     (came_in s sights lookup w.glyphs at)
 
 -- Record i of a rule: the number of a place of its input, and a lookup's. There is nothing to do
--- where the input has no such place, and where no more lookups may be applied.
+-- where the input has no such place. Where fewer operations are left than the lookup takes, none is
+-- left.
 unfoldable pub record_made : (Found → Work → Work) → Setting → List ℕ → List ℕ → ℕ → Work → Work
 record_made by_rule s records places i w =
     let sequence = u16_in records (i * 4) in
     let lookup = lookup_in s.gpos (u16_in records (i * 4 + 2)) in
-    if w.left == 0 then w
-    else (let v = record w { left = w.left - 1 } in if nat_lt sequence (length places)
+    let n = operations_in lookup in
+    if nat_lt w.left n then record w { left = 0 }
+    else (let v = record w { left = w.left - n } in if nat_lt sequence (length places)
     then lookup_made by_rule s lookup (slice_index places sequence) v else v)
 
 -- so many records, from number i on

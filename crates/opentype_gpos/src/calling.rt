@@ -66,29 +66,39 @@ fn call<'a>(
     }
 }
 
-// Applies a record of a rule, if the input has the place that it names.
+// Applies a record of a rule, if the input has the place that it names, and so many operations are
+// left as the lookup takes; else none is left.
 #[tactic(auto, unfolding(crate::specs::Called::record_made))]
 fn call_record<'a>(
     pass: &Pass<'a>,
     records: &[u8],
     places: &[usize],
     i: u16,
+    left: &mut usize,
     glyphs: &mut [hb_glyph_info_t],
     positions: &mut [GlyphPosition],
 ) -> Option<Matched<'a>>
-    requires { length positions.old ≡ length glyphs.old }
-    ensures same { (by_rule : Found → Work → Work) (left : ℕ) → 0 < left →
+    requires some { 0 < left.old }
+    requires paired { length positions.old ≡ length glyphs.old }
+    ensures same { (by_rule : Found → Work → Work) →
         record_made by_rule (setting_of pass.now) records.now places.now i
-        (record { glyphs = glyphs.old; positions = positions.old; left = left })
+        (record { glyphs = glyphs.old; positions = positions.old; left = left.old })
         ≡ made_if_found by_rule (option_map (λ it. found it) result)
-        (record { glyphs = glyphs.new; positions = positions.new; left = left - 1 }) }
+        (record { glyphs = glyphs.new; positions = positions.new; left = left.new }) }
+    ensures fewer { left.new < left.old }
 {
     let record = usize::from(i) * 4;
     let sequence = usize::from(u16_at(records, record));
+    let called = pass.gpos.lookup(u16_at(records, record + 2));
+    let operations = called.operations();
+    if operations > *left {
+        *left = 0;
+        return None;
+    }
+    *left -= operations;
     if sequence >= places.len() {
         return None;
     }
-    let called = pass.gpos.lookup(u16_at(records, record + 2));
     call(pass, &called, places[sequence], glyphs, positions)
 }
 
@@ -125,8 +135,8 @@ fn push_rule<'a>(frames: &mut Frames<'a>, rule: Option<Matched<'a>>, glyphs: &mu
     }
 }
 
-// The next record of the rule on top, or the end of that rule: how many lookups may still be applied,
-// or `None` where no rule is left.
+// The next record of the rule on top, or the end of that rule: how many operations are left, or `None`
+// where no rule is.
 fn step<'a>(
     pass: &Pass<'a>,
     left: usize,
@@ -156,21 +166,23 @@ fn step<'a>(
     }
     let i = frame.next;
     frame.next += 1;
+    let mut left = left;
     let inner = call_record(
         pass,
         frame.records,
         frame.places.as_slice(),
         i,
+        &mut left,
         glyphs,
         positions,
     );
     frames.push(frame);
     push_rule(frames, inner, glyphs);
-    Some(left - 1)
+    Some(left)
 }
 
-// What a rule that another one's lookup found makes of a text; returns how many lookups may still be
-// applied. (Its rules take many bytes, for which a caller that this is inlined into would make room at
+// What a rule that another one's lookup found makes of a text; returns how many operations are left.
+// (Its rules take many bytes, for which a caller that this is inlined into would make room at
 // each call.)
 #[inline(never)]
 fn run<'a>(
@@ -197,8 +209,7 @@ fn run<'a>(
     0
 }
 
-// A record of a rule, with what the lookup makes that it applies; returns how many lookups may still
-// be applied.
+// A record of a rule, with what the lookup makes that it applies; returns how many operations are left.
 fn apply_record<'a>(
     pass: &Pass<'a>,
     rule: &Matched<'a>,
@@ -214,24 +225,27 @@ fn apply_record<'a>(
         (record { glyphs = glyphs.old; positions = positions.old; left = left })
         ≡ record { glyphs = glyphs.new; positions = positions.new; left = result } }
 {
-    match call_record(
+    let mut left = left;
+    let inner = call_record(
         pass,
         rule.records,
         rule.places.as_slice(),
         i,
+        &mut left,
         glyphs,
         positions,
-    ) {
-        Some(inner) => run(pass, inner, left - 1, glyphs, positions),
-        None => left - 1,
+    );
+    match inner {
+        Some(inner) => run(pass, inner, left, glyphs, positions),
+        None => left,
     }
 }
 
-// How many lookups the rules at a place may apply.
-const MOST_CALLS: usize = 4096;
+// How many operations the rules at a place have.
+const MOST_OPERATIONS: usize = 4096;
 
-/// What a rule that fits makes of a text, with the lookups that it applies: at most 4,096, and at
-/// most 64 levels deep.
+/// What a rule that fits makes of a text, with the lookups that it applies: at most 64 levels deep, and
+/// in at most 4,096 operations, of which a lookup takes `LookupTable::operations`.
 pub fn apply_rule<'a>(
     pass: &Pass<'a>,
     rule: &Matched<'a>,
@@ -247,7 +261,7 @@ pub fn apply_rule<'a>(
         positions.new ≡ w.positions }
 {
     flag_rule(rule, glyphs);
-    let mut left = MOST_CALLS;
+    let mut left = MOST_OPERATIONS;
     for i in 0..rule.count {
         if left == 0 {
             return;

@@ -18,7 +18,7 @@ use Rattle.opentype_gsub.specs.Flagged.{unbroken}
 use Rattle.opentype_gsub.specs.Looked.{tried}
 use Rattle.opentype_gsub.specs.Ligated.{as_letter, as_mark, components_of, counted_too, followed_by_marks, is_of_base, is_of_last, is_of_marks, ligature_joined, ligated, ligature_glyph, marks_inside, marked_one, number_before, number_for, with_followers}
 use Rattle.opentype_gsub.specs.Came.{begun, came_in, nth_came}
-use Rattle.opentype_gsub.specs.Machine.{lookup_called, nested, ran, machine_stepped}
+use Rattle.opentype_gsub.specs.Machine.{lookup_called, nested, ran, machine_stepped, turned}
 use Rattle.opentype_gsub.specs.Reversed.{tried_back, around_in, glyphs_at, nth_reversed, reversed_in, lookup_stepped_back}
 use Rattle.opentype_gsub.specs.Setting.{Setting, is_seen, sights_of}
 use Rattle.opentype_face.specs.Ranges.{bisect}
@@ -242,29 +242,49 @@ context = lookup_of 6 0 (0 ∷ 3 ∷ 0 ∷ 0 ∷ 0 ∷ 1 ∷ 0 ∷ 18 ∷ 0 ∷ 
 
 in_context : nested (set_for 9 (gsub_of (lookup_of 1 0 by_delta))) context (glyph 5 1 ∷ glyph 9 2 ∷ []) 0 (with_operations 100)
     ≡ record { text = with_props 16 0 (glyph 7 1) ∷ with_flags 3 (glyph 9 2) ∷ []; end = Some 1; lookups = with_operations 98 }
-unfolding nested tried came_in nth_came begun unbroken is_short sights_of sight_of_input sight_of_context flag_in context_in kind_in first_at found_at around rule_in chained_in test_in reach_behind reach_before reach_from end_in input_in places_from next_from seen_by seen_as ignores may_pass bisect first_from ran machine_stepped lookup_called one_put single_put replaced new_props frame_shifted places_shifted climbing
+unfolding nested tried came_in nth_came begun unbroken is_short sights_of sight_of_input sight_of_context flag_in context_in kind_in first_at found_at around rule_in chained_in test_in reach_behind reach_before reach_from end_in input_in places_from next_from seen_by seen_as ignores may_pass bisect first_from ran machine_stepped turned lookup_called one_put single_put replaced new_props frame_shifted places_shifted climbing
 in_context = refl
 
 out_of_context : nested (set_for 9 (gsub_of (lookup_of 1 0 by_delta))) context (glyph 5 1 ∷ glyph 8 2 ∷ []) 0 (with_operations 100)
     ≡ record { text = glyph 5 1 ∷ glyph 8 2 ∷ []; end = None; lookups = with_operations 100 }
-unfolding nested tried came_in nth_came begun unbroken is_short sights_of sight_of_input sight_of_context flag_in context_in kind_in first_at found_at around rule_in chained_in test_in reach_behind reach_before reach_from end_in input_in places_from next_from seen_by seen_as ignores may_pass bisect first_from ran machine_stepped lookup_called one_put single_put replaced new_props frame_shifted places_shifted climbing
+unfolding nested tried came_in nth_came begun unbroken is_short sights_of sight_of_input sight_of_context flag_in context_in kind_in first_at found_at around rule_in chained_in test_in reach_behind reach_before reach_from end_in input_in places_from next_from seen_by seen_as ignores may_pass bisect first_from ran machine_stepped turned lookup_called one_put single_put replaced new_props frame_shifted places_shifted climbing
 out_of_context = refl
 
 -- two operations are enough; with one the rule's end is missing, and with none its call, too
 just_enough : nested (set_for 9 (gsub_of (lookup_of 1 0 by_delta))) context (glyph 5 1 ∷ glyph 9 2 ∷ []) 0 (with_operations 2)
     ≡ record { text = with_props 16 0 (glyph 7 1) ∷ with_flags 3 (glyph 9 2) ∷ []; end = Some 1; lookups = with_operations 0 }
-unfolding nested tried came_in nth_came begun unbroken is_short sights_of sight_of_input sight_of_context flag_in context_in kind_in first_at found_at around rule_in chained_in test_in reach_behind reach_before reach_from end_in input_in places_from next_from seen_by seen_as ignores may_pass bisect first_from ran machine_stepped lookup_called one_put single_put replaced new_props frame_shifted places_shifted climbing
+unfolding nested tried came_in nth_came begun unbroken is_short sights_of sight_of_input sight_of_context flag_in context_in kind_in first_at found_at around rule_in chained_in test_in reach_behind reach_before reach_from end_in input_in places_from next_from seen_by seen_as ignores may_pass bisect first_from ran machine_stepped turned lookup_called one_put single_put replaced new_props frame_shifted places_shifted climbing
 just_enough = refl
 
 one_missing : nested (set_for 9 (gsub_of (lookup_of 1 0 by_delta))) context (glyph 5 1 ∷ glyph 9 2 ∷ []) 0 (with_operations 1)
     ≡ record { text = with_props 16 0 (glyph 7 1) ∷ with_flags 3 (glyph 9 2) ∷ []; end = None; lookups = undone_with 0 }
-unfolding nested tried came_in nth_came begun unbroken is_short sights_of sight_of_input sight_of_context flag_in context_in kind_in first_at found_at around rule_in chained_in test_in reach_behind reach_before reach_from end_in input_in places_from next_from seen_by seen_as ignores may_pass bisect first_from ran machine_stepped lookup_called one_put single_put replaced new_props frame_shifted places_shifted climbing
+unfolding nested tried came_in nth_came begun unbroken is_short sights_of sight_of_input sight_of_context flag_in context_in kind_in first_at found_at around rule_in chained_in test_in reach_behind reach_before reach_from end_in input_in places_from next_from seen_by seen_as ignores may_pass bisect first_from ran machine_stepped turned lookup_called one_put single_put replaced new_props frame_shifted places_shifted climbing
 one_missing = refl
 
 both_missing : nested (set_for 9 (gsub_of (lookup_of 1 0 by_delta))) context (glyph 5 1 ∷ glyph 9 2 ∷ []) 0 (with_operations 0)
     ≡ record { text = glyph 5 1 ∷ with_flags 3 (glyph 9 2) ∷ []; end = None; lookups = undone_with 0 }
-unfolding nested tried came_in nth_came begun unbroken is_short sights_of sight_of_input sight_of_context flag_in context_in kind_in first_at found_at around rule_in chained_in test_in reach_behind reach_before reach_from end_in input_in places_from next_from seen_by seen_as ignores may_pass bisect first_from ran machine_stepped lookup_called one_put single_put replaced new_props frame_shifted places_shifted climbing
+unfolding nested tried came_in nth_came begun unbroken is_short sights_of sight_of_input sight_of_context flag_in context_in kind_in first_at found_at around rule_in chained_in test_in reach_behind reach_before reach_from end_in input_in places_from next_from seen_by seen_as ignores may_pass bisect first_from ran machine_stepped turned lookup_called one_put single_put replaced new_props frame_shifted places_shifted climbing
 both_missing = refl
+
+-- A lookup of eight subtables takes three operations. With two it isn't applied and none is left; with
+-- three the rule's end is missing.
+abbrev wide_lookup : List ℕ
+wide_lookup = (0 ∷ 1 ∷ 0 ∷ 0 ∷ 0 ∷ 8 ∷ 0 ∷ 22 ∷ 0 ∷ 22 ∷ 0 ∷ 22 ∷ 0 ∷ 22 ∷ 0 ∷ 22 ∷ 0 ∷ 22 ∷ 0 ∷ 22 ∷ 0 ∷ 22 ∷ []) ++ by_delta
+
+wide_enough : nested (set_for 9 (gsub_of wide_lookup)) context (glyph 5 1 ∷ glyph 9 2 ∷ []) 0 (with_operations 100)
+    ≡ record { text = with_props 16 0 (glyph 7 1) ∷ with_flags 3 (glyph 9 2) ∷ []; end = Some 1; lookups = with_operations 96 }
+unfolding nested tried came_in nth_came begun unbroken is_short sights_of sight_of_input sight_of_context flag_in context_in kind_in first_at found_at around rule_in chained_in test_in reach_behind reach_before reach_from end_in input_in places_from next_from seen_by seen_as ignores may_pass bisect first_from ran machine_stepped turned lookup_called one_put single_put replaced new_props frame_shifted places_shifted climbing
+wide_enough = refl
+
+wide_end_missing : nested (set_for 9 (gsub_of wide_lookup)) context (glyph 5 1 ∷ glyph 9 2 ∷ []) 0 (with_operations 3)
+    ≡ record { text = with_props 16 0 (glyph 7 1) ∷ with_flags 3 (glyph 9 2) ∷ []; end = None; lookups = undone_with 0 }
+unfolding nested tried came_in nth_came begun unbroken is_short sights_of sight_of_input sight_of_context flag_in context_in kind_in first_at found_at around rule_in chained_in test_in reach_behind reach_before reach_from end_in input_in places_from next_from seen_by seen_as ignores may_pass bisect first_from ran machine_stepped turned lookup_called one_put single_put replaced new_props frame_shifted places_shifted climbing
+wide_end_missing = refl
+
+wide_missing : nested (set_for 9 (gsub_of wide_lookup)) context (glyph 5 1 ∷ glyph 9 2 ∷ []) 0 (with_operations 2)
+    ≡ record { text = glyph 5 1 ∷ with_flags 3 (glyph 9 2) ∷ []; end = None; lookups = undone_with 0 }
+unfolding nested tried came_in nth_came begun unbroken is_short sights_of sight_of_input sight_of_context flag_in context_in kind_in first_at found_at around rule_in chained_in test_in reach_behind reach_before reach_from end_in input_in places_from next_from seen_by seen_as ignores may_pass bisect first_from ran machine_stepped turned lookup_called one_put single_put replaced new_props frame_shifted places_shifted climbing
+wide_missing = refl
 
 -- GSUB with three lookups: that one, the context, and one that gives glyph 9 to the first one
 abbrev before_all : List ℕ
@@ -299,21 +319,21 @@ both_lookups n = substituted [] three_lookups (use_of 2) (substituted [] three_l
 enough_for_both : both_lookups 4 ≡ record (text_with 0) {
   glyphs = with_props 16 0 (glyph 7 1) ∷ with_props 16 0 (with_flags 3 (glyph 11 2)) ∷ [];
 }
-unfolding substituted applied lookup_applied lookup_stepped is_seen nested tried came_in nth_came begun unbroken is_short sights_of sight_of_input sight_of_context flag_in context_in kind_in first_at found_at around rule_in chained_in test_in reach_behind reach_before reach_from end_in input_in places_from next_from seen_by seen_as ignores may_pass bisect first_from ran machine_stepped lookup_called one_put single_put replaced new_props frame_shifted places_shifted climbing
+unfolding substituted applied lookup_applied lookup_stepped is_seen nested tried came_in nth_came begun unbroken is_short sights_of sight_of_input sight_of_context flag_in context_in kind_in first_at found_at around rule_in chained_in test_in reach_behind reach_before reach_from end_in input_in places_from next_from seen_by seen_as ignores may_pass bisect first_from ran machine_stepped turned lookup_called one_put single_put replaced new_props frame_shifted places_shifted climbing
 enough_for_both = refl
 
 enough_for_one : both_lookups 2 ≡ record (text_with 0) {
   glyphs = with_props 16 0 (glyph 7 1) ∷ with_flags 3 (glyph 9 2) ∷ [];
   lookups = undone_with 0;
 }
-unfolding substituted applied lookup_applied lookup_stepped is_seen nested tried came_in nth_came begun unbroken is_short sights_of sight_of_input sight_of_context flag_in context_in kind_in first_at found_at around rule_in chained_in test_in reach_behind reach_before reach_from end_in input_in places_from next_from seen_by seen_as ignores may_pass bisect first_from ran machine_stepped lookup_called one_put single_put replaced new_props frame_shifted places_shifted climbing
+unfolding substituted applied lookup_applied lookup_stepped is_seen nested tried came_in nth_came begun unbroken is_short sights_of sight_of_input sight_of_context flag_in context_in kind_in first_at found_at around rule_in chained_in test_in reach_behind reach_before reach_from end_in input_in places_from next_from seen_by seen_as ignores may_pass bisect first_from ran machine_stepped turned lookup_called one_put single_put replaced new_props frame_shifted places_shifted climbing
 enough_for_one = refl
 
 -- the first one alone: the text is complete, and its settings are as they were
 first_of_both : substituted [] three_lookups (use_of 1) (text_with 2) ≡ record (text_with 0) {
   glyphs = with_props 16 0 (glyph 7 1) ∷ with_flags 3 (glyph 9 2) ∷ [];
 }
-unfolding substituted applied lookup_applied lookup_stepped is_seen nested tried came_in nth_came begun unbroken is_short sights_of sight_of_input sight_of_context flag_in context_in kind_in first_at found_at around rule_in chained_in test_in reach_behind reach_before reach_from end_in input_in places_from next_from seen_by seen_as ignores may_pass bisect first_from ran machine_stepped lookup_called one_put single_put replaced new_props frame_shifted places_shifted climbing
+unfolding substituted applied lookup_applied lookup_stepped is_seen nested tried came_in nth_came begun unbroken is_short sights_of sight_of_input sight_of_context flag_in context_in kind_in first_at found_at around rule_in chained_in test_in reach_behind reach_before reach_from end_in input_in places_from next_from seen_by seen_as ignores may_pass bisect first_from ran machine_stepped turned lookup_called one_put single_put replaced new_props frame_shifted places_shifted climbing
 first_of_both = refl
 
 -- type 8: glyph 5 becomes 6 before glyph 9

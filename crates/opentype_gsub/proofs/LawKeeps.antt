@@ -18,7 +18,7 @@ use Rattle.opentype_layout.specs.Ligatures.{if_together, input_in, is_apart}
 use Rattle.opentype_gsub.specs.Ligatures.{nth_ligature, ligature_of}
 use Rattle.opentype_gsub.specs.Applied.{PlaceChange, alternate_put, chosen_put, is_random, ligated_put, ligature_put, multiple_put, one_put, put_in, random_of, random_put, sequence_put, single_put, two_byte_number}
 use Rattle.opentype_gsub.specs.Came.{Begun, Frame, begun, came_in, nth_came}
-use Rattle.opentype_gsub.specs.Machine.{AfterCall, Nested, MachineStep, lookup_called, called_by, ended, goes_on_with, nested, step_pushed, ran, started, machine_stepped, with_left}
+use Rattle.opentype_gsub.specs.Machine.{AfterCall, Nested, MachineStep, charged, lookup_called, called_by, ended, goes_on_with, nested, step_pushed, ran, started, machine_stepped, turn_operations, turned}
 use Rattle.opentype_gsub.specs.Setting.{Setting, is_seen, sights_of}
 use Rattle.opentype_gsub.specs.Along.{Along, lookup_stepped, lookup_applied, went_on}
 use Rattle.opentype_gsub.specs.Substituted.{applied, limit_in, setting_for, substituted}
@@ -297,11 +297,16 @@ if_turn : (s : Setting) (gs : Glyphs) (test : Bool) (x y : MachineStep) → Keep
 if_turn s gs true x y one two = one
 if_turn s gs false x y one two = two
 
-turned_keeps : (s : Setting) (gs : Glyphs) (r : LookupRecord) (fs : List Frame) → Keeps s gs (machine_stepped s gs r fs).text
-unfolding machine_stepped
-turned_keeps s gs r [] = unchanged s gs
-turned_keeps s gs r (f ∷ fs) =
+turned_keeps : (s : Setting) (gs : Glyphs) (r : LookupRecord) (f : Frame) (fs : List Frame) → Keeps s gs (turned s gs r f fs).text
+unfolding turned
+turned_keeps s gs r f fs =
     if_turn s gs _ (step_pushed (lookup_called s gs r f) fs) (ended gs r f fs) (called_keeps s gs r f) (ended_keeps s gs r f fs)
+
+stepped_keeps : (s : Setting) (gs : Glyphs) (r : LookupRecord) (fs : List Frame) → Keeps s gs (machine_stepped s gs r fs).text
+unfolding machine_stepped
+stepped_keeps s gs r [] = unchanged s gs
+stepped_keeps s gs r (f ∷ fs) = let n = turn_operations s f in
+    if_turn s gs _ (turned s gs (charged n r) f fs) _ (turned_keeps s gs (charged n r) f fs) (unchanged s gs)
 
 goes_keeps : (s : Setting) (gs : Glyphs) (rest : Glyphs → LookupRecord → List Frame → Nested) (t : MachineStep) (end : Option (Option ℕ)) →
     Keeps s gs t.text → ((hs : Glyphs) (r : LookupRecord) (fs : List Frame) → Keeps s hs (rest hs r fs).text) →
@@ -312,8 +317,8 @@ goes_keeps s gs rest t (Some end) one more = one
 ran_keeps : (s : Setting) (n : ℕ) (gs : Glyphs) (r : LookupRecord) (fs : List Frame) → Keeps s gs (ran n (machine_stepped s) gs r fs).text
 unfolding ran
 ran_keeps s zero gs r fs = unchanged s gs
-ran_keeps s (suc n) gs r fs = let turned = machine_stepped s gs (with_left n r) fs in
-    goes_keeps s gs (ran n (machine_stepped s)) turned turned.end (turned_keeps s gs (with_left n r) fs) (ran_keeps s n)
+ran_keeps s (suc n) gs r fs = let it = machine_stepped s gs r fs in
+    goes_keeps s gs (ran n (machine_stepped s)) it it.end (stepped_keeps s gs r fs) (ran_keeps s n)
 
 started_keeps : (s : Setting) (gs : Glyphs) (r : LookupRecord) (came : Option (PlaceChange ⊎ Begun)) → ForEach (CameKeeps s gs) came →
     Keeps s gs (started (machine_stepped s) gs r came).text

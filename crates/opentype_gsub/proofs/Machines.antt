@@ -4,24 +4,23 @@ use Rattle.std.proofs.Common.{◌⊎◌}
 use Rattle.std.proofs.lemmas.Bool.Decides.{nat_tests}
 use Rattle.std.proofs.lemmas.List.{append-nil, map-append, reverse-append, take_all, take_at}
 use Rattle.shapers_buffer.specs.Glyphs.{Glyphs}
-use Rattle.opentype_gsub.specs.Applied.{PlaceChange, incomplete}
+use Rattle.opentype_gsub.specs.Applied.{PlaceChange}
 use Rattle.opentype_face.specs.Firsts.{first_from}
 use Rattle.opentype_gsub.specs.Setting.{Setting, sights_of}
 use Rattle.opentype_gsub.specs.declared.pass.Sights.{Sights}
-use Rattle.std.specs.Prelude.{IfOk, Result}
+use Rattle.std.specs.Prelude.{IfOk, Result, if◌then◌else◌}
 use Rattle.std.proofs.Common.{subst}
 use Rattle.shapers_buffer.specs.declared.buffer.refusal.ShaperError.{ShaperError}
 use Rattle.opentype_layout.specs.Text.{glyph_at}
-use Rattle.std.proofs.Common.{nat_lt}
-use Rattle.std.specs.Option.{option_map}
+use Rattle.std.proofs.Common.{nat_le, nat_lt}
 use Rattle.opentype_gsub.specs.Came.{Begun, came_in, nth_came, Frame, IsCome}
-use Rattle.opentype_gsub.specs.Machine.{IsEnded, lookup_called, deeper, ended, step_pushed, frame_shifted, machine_stepped, MachineStep, Nested, capped, climbing, goes_on_with, place_moved, ran, places_shifted, stack_left, waiting, waiting_frame, with_left}
+use Rattle.opentype_gsub.specs.Machine.{IsEnded, charged, lookup_called, deeper, ended, step_pushed, frame_shifted, machine_stepped, MachineStep, Nested, next_lookup, capped, climbing, goes_on_with, place_moved, ran, places_shifted, stack_left, turn_operations, turned, undone, waiting, waiting_frame}
 use Rattle.opentype_gsub.specs.declared.shifting.Rule.{Rule}
 use Rattle.opentype_gsub.specs.declared.machine.Outcome.{Outcome}
 use Rattle.shapers_buffer.specs.declared.buffer.lookup_record.LookupRecord.{LookupRecord}
 use Rattle.opentype_gsub.specs.declared.machine.Outcome.TheVariants.{Nothing, Done, Fits}
 use Rattle.opentype_face.proofs.Foremost.{IsFirst, first_hit, first_out, first_passed, first_start}
-use Rattle.opentype_face.specs.Lookups.{subtables_in}
+use Rattle.opentype_face.specs.Lookups.{operations_in, subtables_in}
 
 -- ---- places put in while there is room
 
@@ -141,64 +140,63 @@ coming_none f count i old gs before r t le = (first_out (f old before) count i t
 abbrev pub Turns : Type 0
 Turns = Glyphs → LookupRecord → List Frame → MachineStep
 
-pub record IsRunning (step : Turns) (operations : ℕ) (old : Glyphs) (before : LookupRecord) (start : List Frame) (k : ℕ)
+-- so many turns are left
+pub record IsRunning (step : Turns) (turns : ℕ) (old : Glyphs) (before : LookupRecord) (start : List Frame) (left : ℕ)
     (gs : Glyphs) (r : LookupRecord) (fs : List Frame) : Type 0 where
-  pub rest : ran operations step old before start ≡ ran (operations - k) step gs r fs
+  pub rest : ran turns step old before start ≡ ran left step gs r fs
 
 one_turn : (step : Turns) (n : ℕ) (gs : Glyphs) (r : LookupRecord) (fs : List Frame) →
-    ran (suc n) step gs r fs ≡ goes_on_with (ran n step) (step gs (with_left n r) fs) (step gs (with_left n r) fs).end
+    ran (suc n) step gs r fs ≡ goes_on_with (ran n step) (step gs r fs) (step gs r fs).end
 unfolding ran
 one_turn step n gs r fs = refl
 
 no_turn : (step : Turns) (gs : Glyphs) (r : LookupRecord) (fs : List Frame) →
-    ran 0 step gs r fs ≡ record { text = gs; end = None; lookups = incomplete r }
+    ran 0 step gs r fs ≡ record { text = gs; end = None; lookups = undone r }
 unfolding ran
 no_turn step gs r fs = refl
 
-pub running_start : (step : Turns) (operations : ℕ) (old : Glyphs) (before : LookupRecord) (start fs : List Frame) → fs ≡ start →
-    IsRunning step operations old before start 0 old before fs
-running_start step operations old before start fs is =
-    let e : operations - 0 ≡ operations = omega arith in rw is (record { rest = rw e refl })
+pub running_start : (step : Turns) (turns : ℕ) (old : Glyphs) (before : LookupRecord) (start fs : List Frame) → fs ≡ start →
+    IsRunning step turns old before start turns old before fs
+running_start step turns old before start fs is = rw is (record { rest = refl })
 
-turn_is : (step : Turns) (operations k : ℕ) (old gs : Glyphs) (before r : LookupRecord) (start fs : List Frame) (t : MachineStep) →
-    IsRunning step operations old before start k gs r fs → k < operations →
-    step gs (with_left (operations - (k + 1)) r) fs ≡ t →
-    ran operations step old before start ≡ goes_on_with (ran (operations - (k + 1)) step) t t.end
-turn_is step operations k old gs before r start fs t at lt is =
-    let e : operations - k ≡ suc (operations - (k + 1)) = omega arith in
-    at.rest ∙ ap (λ n. ran n step gs r fs) e ∙ one_turn step (operations - (k + 1)) gs r fs
-    ∙ ap (λ x. goes_on_with (ran (operations - (k + 1)) step) x x.end) is
+turn_is : (step : Turns) (turns left : ℕ) (old gs : Glyphs) (before r : LookupRecord) (start fs : List Frame) (t : MachineStep) →
+    IsRunning step turns old before start left gs r fs → 0 < left → step gs r fs ≡ t →
+    ran turns step old before start ≡ goes_on_with (ran (left - 1) step) t t.end
+turn_is step turns left old gs before r start fs t at lt is =
+    let e : left ≡ suc (left - 1) = omega arith in
+    at.rest ∙ ap (λ n. ran n step gs r fs) e ∙ one_turn step (left - 1) gs r fs
+    ∙ ap (λ x. goes_on_with (ran (left - 1) step) x x.end) is
 
-pub running_next : (step : Turns) (operations k : ℕ) (old gs new : Glyphs) (before r after : LookupRecord) (start fs next : List Frame) →
-    IsRunning step operations old before start k gs r fs → k < operations →
-    step gs (with_left (operations - (k + 1)) r) fs ≡ record { text = new; lookups = after; stack = next; end = None } →
-    IsRunning step operations old before start (k + 1) new after next
-running_next step operations k old gs new before r after start fs next at lt is =
-    record { rest = turn_is step operations k old gs before r start fs _ at lt is }
+pub running_next : (step : Turns) (turns left : ℕ) (old gs new : Glyphs) (before r after : LookupRecord) (start fs next : List Frame) →
+    IsRunning step turns old before start left gs r fs → 0 < left →
+    step gs r fs ≡ record { text = new; lookups = after; stack = next; end = None } →
+    IsRunning step turns old before start (left - 1) new after next
+running_next step turns left old gs new before r after start fs next at lt is =
+    record { rest = turn_is step turns left old gs before r start fs _ at lt is }
 
-pub running_end : (step : Turns) (operations k : ℕ) (old gs new : Glyphs) (before r after : LookupRecord) (start fs next : List Frame)
+pub running_end : (step : Turns) (turns left : ℕ) (old gs new : Glyphs) (before r after : LookupRecord) (start fs next : List Frame)
     (end : Option ℕ) →
-    IsRunning step operations old before start k gs r fs → k < operations →
-    step gs (with_left (operations - (k + 1)) r) fs ≡ record { text = new; lookups = after; stack = next; end = Some end } →
-    ran operations step old before start ≡ record { text = new; end = end; lookups = after }
-running_end step operations k old gs new before r after start fs next end at lt is =
-    turn_is step operations k old gs before r start fs _ at lt is
+    IsRunning step turns old before start left gs r fs → 0 < left →
+    step gs r fs ≡ record { text = new; lookups = after; stack = next; end = Some end } →
+    ran turns step old before start ≡ record { text = new; end = end; lookups = after }
+running_end step turns left old gs new before r after start fs next end at lt is =
+    turn_is step turns left old gs before r start fs _ at lt is
 
-pub running_called : (step : Turns) (operations k : ℕ) (old gs text new : Glyphs) (before r mid after : LookupRecord)
+pub running_called : (step : Turns) (turns left : ℕ) (old gs text new : Glyphs) (before r mid after : LookupRecord)
     (start fs next : List Frame) (result : Result (Option ℕ) ShaperError) →
-    IsRunning step operations old before start k gs r fs → k < operations →
-    step gs (with_left (operations - (k + 1)) r) fs ≡ record { text = text; lookups = mid; stack = next; end = None } →
-    IfOk result (λ end. ran (operations - (k + 1)) step text mid next ≡ record { text = new; end = end; lookups = after }) →
-    IfOk result (λ end. ran operations step old before start ≡ record { text = new; end = end; lookups = after })
-running_called step operations k old gs text new before r mid after start fs next result at lt is rest =
+    IsRunning step turns old before start left gs r fs → 0 < left →
+    step gs r fs ≡ record { text = text; lookups = mid; stack = next; end = None } →
+    IfOk result (λ end. ran (left - 1) step text mid next ≡ record { text = new; end = end; lookups = after }) →
+    IfOk result (λ end. ran turns step old before start ≡ record { text = new; end = end; lookups = after })
+running_called step turns left old gs text new before r mid after start fs next result at lt is rest =
     subst (λ (all : Nested). IfOk result (λ end. all ≡ record { text = new; end = end; lookups = after }))
-    (sym (turn_is step operations k old gs before r start fs _ at lt is)) rest
+    (sym (turn_is step turns left old gs before r start fs _ at lt is)) rest
 
-pub running_out : (step : Turns) (operations k : ℕ) (old gs : Glyphs) (before r : LookupRecord) (start fs : List Frame) →
-    IsRunning step operations old before start k gs r fs → operations ≤ k →
-    ran operations step old before start ≡ record { text = gs; end = None; lookups = incomplete r }
-running_out step operations k old gs before r start fs at le =
-    let e : operations - k ≡ 0 = omega arith in at.rest ∙ ap (λ n. ran n step gs r fs) e ∙ no_turn step gs r fs
+pub running_out : (step : Turns) (turns left : ℕ) (old gs : Glyphs) (before r : LookupRecord) (start fs : List Frame) →
+    IsRunning step turns old before start left gs r fs → left ≡ 0 →
+    ran turns step old before start ≡ record { text = gs; end = None; lookups = undone r }
+running_out step turns left old gs before r start fs at none =
+    at.rest ∙ ap (λ n. ran n step gs r fs) none ∙ no_turn step gs r fs
 
 -- ---- the stack, its top first
 
@@ -231,17 +229,46 @@ came_by s lookup gs new at r after sights result lt is come =
 
 -- ---- the arms of a turn
 
-ended_is : (gs : Glyphs) (r : LookupRecord) (f now : Frame) (below fs : List Frame) (it : Option ℕ) →
+ended_is : (gs : Glyphs) (r : LookupRecord) (f now : Frame) (below fs : List Frame) (it : Option (Option ℕ)) →
     IsEnded (length gs) f below now fs it →
-    ended gs r f below ≡ record { text = gs; lookups = r; stack = stack_left it now fs; end = option_map Some it }
+    ended gs r f below ≡ record { text = gs; lookups = r; stack = stack_left it now fs; end = it }
 ended_is gs r f now [] fs it e = rw e refl
 ended_is gs r f now (outer ∷ below) fs it e = rw (e.1, e.0) refl
 
-pub turn_ends : (s : Setting) (gs : Glyphs) (r : LookupRecord) (f now : Frame) (below fs : List Frame) (it : Option ℕ) →
-    f.count ≤ f.next → IsEnded (length gs) f below now fs it →
-    machine_stepped s gs r (f ∷ below)
-    ≡ record { text = gs; lookups = r; stack = stack_left it now fs; end = option_map Some it }
+-- What is there for a turn: the operations that it takes are left.
+pub turn_paid : (s : Setting) (gs : Glyphs) (r after : LookupRecord) (f : Frame) (below : List Frame) (t : MachineStep)
+    (enough : Bool) → enough ≡ nat_le (turn_operations s f) r.operations_left → enough ≡ true →
+    after ≡ charged (turn_operations s f) r → turned s gs after f below ≡ t → machine_stepped s gs r (f ∷ below) ≡ t
 unfolding machine_stepped
+turn_paid s gs r after f below t enough is e c turn =
+    ap (λ b. if b then turned s gs (charged (turn_operations s f) r) f below
+    else record { text = gs; lookups = charged (turn_operations s f) r; stack = []; end = Some None }) (sym is ∙ e)
+    ∙ ap (λ x. turned s gs x f below) (sym c) ∙ turn
+
+pub turn_unpaid : (s : Setting) (gs : Glyphs) (r after : LookupRecord) (f : Frame) (below : List Frame) (enough : Bool) →
+    enough ≡ nat_le (turn_operations s f) r.operations_left → enough ≡ false → after ≡ charged (turn_operations s f) r →
+    machine_stepped s gs r (f ∷ below) ≡ record { text = gs; lookups = after; stack = []; end = Some None }
+unfolding machine_stepped
+turn_unpaid s gs r after f below enough is e c =
+    ap (λ b. if b then turned s gs (charged (turn_operations s f) r) f below
+    else record { text = gs; lookups = charged (turn_operations s f) r; stack = []; end = Some None }) (sym is ∙ e)
+    ∙ (let stopped : LookupRecord → MachineStep = λ x. record { text = gs; lookups = x; stack = []; end = Some None } in
+    ap stopped (sym c))
+
+-- What a turn takes, by the arm that it comes to.
+pub end_operations : (s : Setting) (f : Frame) → f.count ≤ f.next → turn_operations s f ≡ 1
+end_operations s f le = let t : nat_lt f.next f.count ≡ false = grind (arith, nat_tests) in rw t refl
+
+pub call_operations : (s : Setting) (f : Frame) (lookup : List ℕ) (n : ℕ) → f.next < f.count → lookup ≡ next_lookup s f →
+    n ≡ operations_in lookup → turn_operations s f ≡ n
+call_operations s f lookup n lt is cost =
+    let t : nat_lt f.next f.count ≡ true = grind (arith, nat_tests) in
+    ap (λ b. if b then operations_in (next_lookup s f) else 1) t ∙ ap (λ table. operations_in table) (sym is) ∙ sym cost
+
+pub turn_ends : (s : Setting) (gs : Glyphs) (r : LookupRecord) (f now : Frame) (below fs : List Frame) (it : Option (Option ℕ)) →
+    f.count ≤ f.next → IsEnded (length gs) f below now fs it →
+    turned s gs r f below ≡ record { text = gs; lookups = r; stack = stack_left it now fs; end = it }
+unfolding turned
 turn_ends s gs r f now below fs it le e =
     let t : nat_lt f.next f.count ≡ false = grind (arith, nat_tests) in rw t (ended_is gs r f now below fs it e)
 
@@ -249,8 +276,8 @@ pub turn_calls : (s : Setting) (gs text : Glyphs) (r after : LookupRecord) (f fr
     (below new : List Frame) → f.next < f.count →
     lookup_called s gs r f ≡ record { text = text; lookups = after; frame = frame; inner = inner } →
     new ≡ deeper inner (frame ∷ below) →
-    machine_stepped s gs r (f ∷ below) ≡ record { text = text; lookups = after; stack = new; end = None }
-unfolding machine_stepped
+    turned s gs r f below ≡ record { text = text; lookups = after; stack = new; end = None }
+unfolding turned
 turn_calls s gs text r after f frame inner below new lt c made =
     let t : nat_lt f.next f.count ≡ true = grind (arith, nat_tests) in
     rw t (ap (λ x. step_pushed x below) c

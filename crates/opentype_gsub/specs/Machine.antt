@@ -1,10 +1,10 @@
 -- Rules that apply lookups, and these lookups: a machine with a stack of rules, at most 64 deep.
-use Rattle.std.specs.Prelude.{ℕ, zero, suc, ◌+◌, ◌-◌, ◌*◌, ◌^◌, ◌≡◌, ◌⊎◌, min, nat_lt, List, [], ◌∷◌, ◌++◌, map, take, drop, length, reverse, slice_index, Option, None, Some, if◌then◌else◌}
+use Rattle.std.specs.Prelude.{ℕ, zero, suc, ◌+◌, ◌-◌, ◌*◌, ◌^◌, ◌≡◌, ◌⊎◌, min, nat_le, nat_lt, List, [], ◌∷◌, ◌++◌, map, take, drop, length, reverse, slice_index, Option, None, Some, if◌then◌else◌}
 use Rattle.std.proofs.Common.{inl, inr}
 use Rattle.shapers_buffer.specs.Glyphs.{Glyphs}
 use Rattle.shapers_buffer.specs.declared.buffer.lookup_record.LookupRecord.{LookupRecord}
 use Rattle.opentype_face.specs.Bytes.{u16_in}
-use Rattle.opentype_face.specs.Lookups.{lookup_in}
+use Rattle.opentype_face.specs.Lookups.{lookup_in, operations_in}
 use Rattle.opentype_gsub.specs.Applied.{PlaceChange, incomplete}
 use Rattle.opentype_gsub.specs.Came.{Begun, Frame, came_in, frame_of}
 use Rattle.opentype_gsub.specs.Looked.{tried}
@@ -90,15 +90,37 @@ aimed sequence len f = record {
   before = len;
 }
 
+-- the lookup that a rule applies next
+abbrev pub next_lookup : Setting → Frame → List ℕ
+next_lookup s f = lookup_in s.gsub (u16_in f.records (f.next * 4 + 2))
+
 unfoldable pub lookup_called : Setting → Glyphs → LookupRecord → Frame → AfterCall
 lookup_called s gs r f =
     let sequence = u16_in f.records (f.next * 4) in
-    let lookup = lookup_in s.gsub (u16_in f.records (f.next * 4 + 2)) in
+    let lookup = next_lookup s f in
     let place = slice_index f.places sequence in
     let flagged = tried s lookup gs place in
     if nat_lt sequence (length f.places)
     then called_by flagged r (aimed sequence (length gs) f) (came_in s lookup flagged place r)
     else record { text = gs; lookups = r; frame = aimed f.sequence f.before f; inner = None }
+
+-- ---- the text's operations
+
+abbrev pub with_left : ℕ → LookupRecord → LookupRecord
+with_left n r = record r { operations_left = n }
+
+-- Something is left undone for want of operations: none is left, and the text isn't complete.
+abbrev pub undone : LookupRecord → LookupRecord
+undone r = with_left 0 (incomplete r)
+
+-- so many operations are taken from those that are left, if these are as many
+abbrev pub charged : ℕ → LookupRecord → LookupRecord
+charged n r =
+    if nat_le n r.operations_left then with_left (r.operations_left - n) r else undone r
+
+-- What a turn takes: the end of a rule one operation, and a lookup what its subtables say.
+abbrev pub turn_operations : Setting → Frame → ℕ
+turn_operations s f = if nat_lt f.next f.count then operations_in (next_lookup s f) else 1
 
 -- ---- one turn of the machine
 
@@ -118,13 +140,14 @@ ended gs r f (outer ∷ fs) = record {
 }
 
 -- The same, as the code gives it: the rule in hand, those that wait below it, and where the machine
--- ends, the place behind what was done.
-abbrev pub IsEnded : ℕ → Frame → List Frame → Frame → List Frame → Option ℕ → Type 0
-IsEnded len f [] now fs it = it ≡ Some f.end
+-- ends, what it ends with.
+abbrev pub IsEnded :
+    ℕ → Frame → List Frame → Frame → List Frame → Option (Option ℕ) → Type 0
+IsEnded len f [] now fs it = it ≡ Some (Some f.end)
 IsEnded len f (outer ∷ rest) now fs it = (now ∷ fs ≡ frame_shifted len outer ∷ rest) × (it ≡ None)
 
 -- the stack after a turn, by the rule in hand and those that wait below it
-abbrev pub stack_left : Option ℕ → Frame → List Frame → List Frame
+abbrev pub stack_left : Option (Option ℕ) → Frame → List Frame → List Frame
 stack_left None f fs = f ∷ fs
 stack_left (Some end) f fs = []
 
@@ -140,10 +163,18 @@ step_pushed c fs = record {
   end = None;
 }
 
+-- the next lookup of the rule in hand, or the end of that rule
+unfoldable pub turned : Setting → Glyphs → LookupRecord → Frame → List Frame → MachineStep
+turned s gs r f fs =
+    if nat_lt f.next f.count then step_pushed (lookup_called s gs r f) fs else ended gs r f fs
+
+-- Where fewer operations are left than that takes, the rules on the stack end undone.
 unfoldable pub machine_stepped : Setting → Glyphs → LookupRecord → List Frame → MachineStep
 machine_stepped s gs r [] = record { text = gs; lookups = r; stack = []; end = Some None }
 machine_stepped s gs r (f ∷ fs) =
-    if nat_lt f.next f.count then step_pushed (lookup_called s gs r f) fs else ended gs r f fs
+    let n = turn_operations s f in
+    if nat_le n r.operations_left then turned s gs (charged n r) f fs
+    else record { text = gs; lookups = charged n r; stack = []; end = Some None }
 
 -- ---- the machine
 
@@ -158,16 +189,12 @@ abbrev pub goes_on_with : (Glyphs → LookupRecord → List Frame → Nested) �
 goes_on_with rest t None = rest t.text t.lookups t.stack
 goes_on_with rest t (Some end) = record { text = t.text; end = end; lookups = t.lookups }
 
-abbrev pub with_left : ℕ → LookupRecord → LookupRecord
-with_left n r = record r { operations_left = n }
-
--- With so many operations, of which each turn takes one. Where none is left, the rules on the stack
--- end undone.
+-- In at most so many turns. As many as there are operations are enough, since each turn takes one
+-- at least.
 unfoldable pub ran : ℕ → (Glyphs → LookupRecord → List Frame → MachineStep) → Glyphs →
     LookupRecord → List Frame → Nested
-ran zero step gs r fs = record { text = gs; end = None; lookups = incomplete r }
-ran (suc n) step gs r fs =
-    let turned = step gs (with_left n r) fs in goes_on_with (ran n step) turned turned.end
+ran zero step gs r fs = record { text = gs; end = None; lookups = undone r }
+ran (suc n) step gs r fs = let it = step gs r fs in goes_on_with (ran n step) it it.end
 
 abbrev pub started : (Glyphs → LookupRecord → List Frame → MachineStep) → Glyphs → LookupRecord →
     Option (PlaceChange ⊎ Begun) → Nested

@@ -1,12 +1,12 @@
 //! Lookups that rules apply, on a stack in the place of a recursion.
-ghost use Rattle.std.specs.Prelude.{◌≡◌, ◌<◌, ◌==◌, ◌⊎◌, ℕ, List, [], ◌∷◌, Some, length, IfOk};
+ghost use Rattle.std.specs.Prelude.{◌≡◌, ◌<◌, nat_le, ◌==◌, ◌⊎◌, ℕ, List, [], ◌∷◌, Some, length, IfOk};
 ghost use Rattle.std.specs.Option.{option_map};
 ghost use Rattle.opentype_layout.specs.Rules.{context_in, found};
 ghost use Rattle.opentype_face.specs.Firsts.{first_from};
 ghost use Rattle.opentype_face.specs.Lookups.{subtables_in};
 ghost use Rattle.opentype_gsub.specs.Applied.{two_byte_number};
 ghost use Rattle.opentype_gsub.specs.Came.{IsCome, begun, came_in, frame_of, nth_came};
-ghost use Rattle.opentype_gsub.specs.Machine.{IsEnded, lookup_called, deeper, nested, ran, machine_stepped, stack_left, waiting, waiting_frame};
+ghost use Rattle.opentype_gsub.specs.Machine.{IsEnded, charged, lookup_called, deeper, nested, next_lookup, ran, machine_stepped, stack_left, waiting, waiting_frame};
 ghost use Rattle.opentype_gsub.specs.Setting.{setting_of, sights_of, sights_within};
 ghost use Rattle.opentype_gsub.specs.Looked.{tried};
 ghost use Rattle.opentype_layout.specs.Text.{glyph_at};
@@ -190,15 +190,40 @@ fn try_at<'a>(
     come_to(pass, sights, lookup, text, lookups, at)
 }
 
+// The lookup that a rule applies next.
+fn next_called<'a>(pass: &Pass<'a>, rule: &Rule<'_>) -> LookupTable<'a>
+    ensures { result ≡ next_lookup (setting_of pass.now) (frame_of rule.now) }
+{
+    let record = usize::from(rule.next) * 4;
+    pass.gsub.lookup(u16_at(rule.records, record + 2))
+}
+
+// Takes so many of the text's operations, if as many are left; else none is left, and the text isn't
+// complete.
+fn charge(lookups: &mut LookupRecord, operations: usize) -> bool
+    ensures enough { result ≡ nat_le operations lookups.old.operations_left }
+    ensures charged { lookups.new ≡ charged operations lookups.old }
+{
+    if operations > lookups.operations_left {
+        lookups.operations_left = 0;
+        lookups.is_complete = false;
+        return false;
+    }
+    lookups.operations_left -= operations;
+    true
+}
+
 // Applies the next lookup of a rule; the rule that fits there, if one does.
 #[tactic(auto, unfolding(crate::specs::Machine::lookup_called))]
 fn call<'a>(
     pass: &Pass<'a>,
+    called: &LookupTable<'a>,
     text: &mut GlyphText,
     lookups: &mut LookupRecord,
     rule: &mut Rule<'a>,
 ) -> Result<Option<Rule<'a>>, ShaperError>
-    requires { rule.old.next < rule.old.count }
+    requires one_more { rule.old.next < rule.old.count }
+    requires next { called.now ≡ next_lookup (setting_of pass.now) (frame_of rule.old) }
     ensures { IfOk result (λ inner.
         lookup_called (setting_of pass.now) text.old lookups.old (frame_of rule.old) ≡ record {
           text = text.new;
@@ -207,9 +232,7 @@ fn call<'a>(
           inner = option_map (λ r. frame_of r) inner;
         }) }
 {
-    let record = usize::from(rule.next) * 4;
-    let sequence = usize::from(u16_at(rule.records, record));
-    let called = pass.gsub.lookup(u16_at(rule.records, record + 2));
+    let sequence = usize::from(u16_at(rule.records, usize::from(rule.next) * 4));
     rule.next += 1;
     if sequence >= rule.places.len() {
         return Ok(None);
@@ -220,7 +243,7 @@ fn call<'a>(
     let sights = pass
         .lookup
         .sights_within(pass.classes.gdef, called.bytes(), 0);
-    match try_at(pass, &sights, &called, text, lookups, place) {
+    match try_at(pass, &sights, called, text, lookups, place) {
         Ok(Outcome::Nothing) => Ok(None),
         Ok(Outcome::Done(_)) => {
             rule.shift_behind(text.len());
@@ -241,13 +264,14 @@ fn waited<'a>(caller: Option<Rule<'a>>) -> Rule<'a>
     Rule::default()
 }
 
-// Where a rule ends, its caller is in hand again; where it has none, the place behind what was done.
-fn end_rule<'a>(len: usize, rule: &mut Rule<'a>, callers: &mut Callers<'a>) -> Option<usize>
+// Where a rule ends, its caller is in hand again; where it has none, the machine ends with the place
+// behind what was done.
+fn end_rule<'a>(len: usize, rule: &mut Rule<'a>, callers: &mut Callers<'a>) -> Option<Option<usize>>
     ensures { IsEnded len (frame_of rule.old) (waiting callers.old.items) (frame_of rule.new)
         (waiting callers.new.items) result }
 {
     let Some(caller) = callers.pop() else {
-        return Some(rule.end);
+        return Some(Some(rule.end));
     };
     let mut caller = waited(caller);
     caller.shift_behind(len);
@@ -265,32 +289,39 @@ fn go_deeper<'a>(called: Rule<'a>, rule: &mut Rule<'a>, callers: &mut Callers<'a
     }
 }
 
-// One turn of the machine; where it ends, the place behind what was done.
+// One turn of the machine; `None` where it goes on, else what `run_called` returns.
 fn step<'a>(
     pass: &Pass<'a>,
     text: &mut GlyphText,
     lookups: &mut LookupRecord,
     rule: &mut Rule<'a>,
     callers: &mut Callers<'a>,
-) -> Result<Option<usize>, ShaperError>
+) -> Result<Option<Option<usize>>, ShaperError>
     ensures { IfOk result (λ end. machine_stepped (setting_of pass.now) text.old lookups.old
         (frame_of rule.old ∷ waiting callers.old.items) ≡ record {
           text = text.new;
           lookups = lookups.new;
           stack = stack_left end (frame_of rule.new) (waiting callers.new.items);
-          end = option_map (λ e. Some e) end;
+          end = end;
         }) }
 {
     if rule.next >= rule.count {
+        if !charge(lookups, 1) {
+            return Ok(Some(None));
+        }
         return Ok(end_rule(text.len(), rule, callers));
     }
-    if let Some(called) = call(pass, text, lookups, rule)? {
-        go_deeper(called, rule, callers);
+    let called = next_called(pass, rule);
+    if !charge(lookups, called.operations()) {
+        return Ok(Some(None));
+    }
+    if let Some(inner) = call(pass, &called, text, lookups, rule)? {
+        go_deeper(inner, rule, callers);
     }
     Ok(None)
 }
 
-// The machine with so many operations, from a rule on that another one called; the place behind what
+// The machine in at most so many turns, from a rule on that another one called; the place behind what
 // was done. (Its stack of 36 KB is no part of functions that run for each glyph.)
 #[inline(never)]
 fn run_called<'a>(
@@ -299,23 +330,25 @@ fn run_called<'a>(
     lookups: &mut LookupRecord,
     caller: Rule<'a>,
     called: Rule<'a>,
-    operations: usize,
+    turns: usize,
 ) -> Result<Option<usize>, ShaperError>
-    ensures { IfOk result (λ end. ran operations (machine_stepped (setting_of pass.now))
+    ensures { IfOk result (λ end. ran turns (machine_stepped (setting_of pass.now))
         text.old lookups.old (frame_of called.entry ∷ frame_of caller.entry ∷ [])
         ≡ record { text = text.new; end = end; lookups = lookups.new }) }
 {
     let mut rule = called;
     let mut callers = Callers::new();
     callers.push(Some(caller));
-    for done in 0..operations {
-        lookups.operations_left = operations - (done + 1);
+    let mut left = turns;
+    while left > 0 {
+        left -= 1;
         match step(pass, text, lookups, &mut rule, &mut callers) {
-            Ok(Some(end)) => return Ok(Some(end)),
+            Ok(Some(end)) => return Ok(end),
             Ok(None) => {}
             Err(e) => return Err(e),
         }
     }
+    lookups.operations_left = 0;
     lookups.is_complete = false;
     Ok(None)
 }
@@ -328,33 +361,41 @@ fn run<'a>(
     text: &mut GlyphText,
     lookups: &mut LookupRecord,
     rule: Rule<'a>,
-    operations: usize,
+    turns: usize,
 ) -> Result<Option<usize>, ShaperError>
-    ensures { IfOk result (λ end. ran operations (machine_stepped (setting_of pass.now))
+    ensures { IfOk result (λ end. ran turns (machine_stepped (setting_of pass.now))
         text.old lookups.old (frame_of rule.entry ∷ [])
         ≡ record { text = text.new; end = end; lookups = lookups.new }) }
 {
     let mut rule = rule;
-    for done in 0..operations {
-        let left = operations - (done + 1);
-        lookups.operations_left = left;
+    let mut left = turns;
+    while left > 0 {
+        left -= 1;
         if rule.next >= rule.count {
+            if !charge(lookups, 1) {
+                return Ok(None);
+            }
             return Ok(Some(rule.end));
         }
-        match call(pass, text, lookups, &mut rule) {
-            Ok(Some(called)) => return run_called(pass, text, lookups, rule, called, left),
+        let called = next_called(pass, &rule);
+        if !charge(lookups, called.operations()) {
+            return Ok(None);
+        }
+        match call(pass, &called, text, lookups, &mut rule) {
+            Ok(Some(inner)) => return run_called(pass, text, lookups, rule, inner, left),
             Ok(None) => {}
             Err(e) => return Err(e),
         }
     }
+    lookups.operations_left = 0;
     lookups.is_complete = false;
     Ok(None)
 }
 
 /// Applies a lookup by its table at a place, and the lookups that its rules apply, with the operations
-/// that the text has left: each call of a lookup is one, and so is the end of a rule. It returns the
-/// place behind what was done, if the lookup fits. What the table sees is the same at each place of a
-/// text.
+/// that the text has left: the end of a rule takes one, and each lookup that it applies
+/// `LookupTable::operations`. It returns the place behind what was done, if the lookup fits. What the
+/// table sees is the same at each place of a text.
 ///
 /// # Errors
 ///
@@ -380,8 +421,9 @@ pub fn apply_nested<'a>(
         Ok(Outcome::Nothing) => Ok(None),
         Ok(Outcome::Done(next)) => Ok(Some(next)),
         Ok(Outcome::Fits(rule)) => {
-            let operations = lookups.operations_left;
-            run(pass, text, lookups, rule, operations)
+            // (each turn takes an operation at least)
+            let turns = lookups.operations_left;
+            run(pass, text, lookups, rule, turns)
         }
         Err(e) => Err(e),
     }

@@ -1,6 +1,6 @@
 //! Which subtables of a lookup may begin at a glyph.
 ghost use Rattle.std.specs.Prelude.{◌≡◌, ◌<◌, ◌≤◌, List, ℕ, false, true, length, min, IfSome, unwrap_or};
-ghost use Rattle.opentype_face.specs.Lookups.{subtable_in, subtables_in, type_in};
+ghost use Rattle.opentype_face.specs.Lookups.{operations_in, subtable_in, subtables_in, type_in};
 ghost use Rattle.opentype_layout.specs.Bits.{Grown};
 ghost use Rattle.opentype_layout.specs.LookupRows.{BeginsNot, row_bit};
 ghost use Rattle.opentype_layout.specs.PairTables.{ArePairTables};
@@ -487,6 +487,14 @@ impl<'a> LookupTable<'a> {
         ensures { result ≡ subtables_in self.now }
     {
         self.count
+    }
+
+    /// How many operations it takes to apply the lookup for a rule.
+    #[inline]
+    pub fn operations(&self) -> usize
+        ensures { result ≡ operations_in self.now }
+    {
+        1 + usize::from(self.count) / 4
     }
 
     /// The next subtable from one on that is to be tried at a glyph; those between don't begin

@@ -1,4 +1,4 @@
-use Rattle.std.proofs.Common.{◌-◌, arith, lit<, refl}
+use Rattle.std.proofs.Common.{arith, lit<, refl}
 use Rattle.std.specs.Option.{option_map}
 use Rattle.opentype_layout.specs.Rules.{found}
 use Rattle.opentype_gpos.proofs.Calls.{turn_ended, turn_goes_on}
@@ -15,7 +15,7 @@ returns-clause-same c = turn_goes_on _ _ _ _ c.in-Some.frame _ c.as_slice.result
     (record {
       glyphs = c.call_record-inner.new.glyphs;
       positions = c.call_record-inner.new.positions;
-      left = c.args.left - 1;
+      left = c.call_record-inner.new.left;
     }) (option_map (λ m. found m) c.call_record-inner.result) _ c.as_slice.ensures.value
     c.in-Some.ensures.items c.push.ensures.items (omega arith) refl
-    (c.call_record-inner.ensures.same _ _ c.requires.some) (c.push_rule.ensures.same _ _ _)
+    (c.call_record-inner.ensures.same _) (c.push_rule.ensures.same _ _ _)

@@ -5,6 +5,9 @@ use Rattle.opentype_gsub.specs.Setting.{setting_of}
 use Rattle.std.proofs.Common.{[], ◌∷◌}
 use Rattle.opentype_gsub.proofs.machine.run_called.Given as goal
 
-abbrev pub invariant-loop-done : goal.invariant-loop-done
-invariant-loop-done l = IsRunning (machine_stepped (setting_of l.pass)) l.operations l.fn.text l.fn.lookups
-    (frame_of l.fn.called ∷ frame_of l.fn.caller ∷ []) l.done l.text l.lookups (frame_of l.rule ∷ waiting l.callers.items)
+abbrev pub invariant-loop-left : goal.invariant-loop-left
+invariant-loop-left l = IsRunning (machine_stepped (setting_of l.pass)) l.turns l.fn.text l.fn.lookups
+    (frame_of l.fn.called ∷ frame_of l.fn.caller ∷ []) l.left l.text l.lookups (frame_of l.rule ∷ waiting l.callers.items)
+
+abbrev pub decreases-loop-left : goal.decreases-loop-left
+decreases-loop-left l = l.left

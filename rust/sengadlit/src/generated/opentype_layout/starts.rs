@@ -533,6 +533,24 @@ impl<'a> LookupTable<'a> {
         self.count
     }
 
+    /// How many operations it takes to apply the lookup for a rule.
+    ///
+    /// <details><summary>Contract</summary>
+    ///
+    /// # Contract
+    ///
+    /// ```text
+    /// ensures { result ≡ operations_in self.now }
+    /// ```
+    ///
+    /// - `operations_in`: `crates/opentype_face/specs/Lookups.antt`
+    ///
+    /// </details>
+    #[inline]
+    pub fn operations(&self) -> usize {
+        1 + usize::from(self.count) / 4
+    }
+
     /// The next subtable from one on that is to be tried at a glyph; those between don't begin
     /// there. (A single one is quickly tried.)
     ///
