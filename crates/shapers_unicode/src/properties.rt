@@ -71,7 +71,8 @@ pub fn is_default_ignorable(c: char) -> bool
 
 /// The general category of a character, the class by which a mark is ordered, and whether a font need
 /// not draw the character: all that one look-up tells.
-#[inline]
+// (in a caller's walk, as a call for each character takes longer than the look-up)
+#[inline(always)]
 pub fn character_kind(c: char) -> (hb_unicode_general_category_t, u8, bool)
     ensures { result ≡ (category_of_character c, modified_class c, default_ignorable c) }
 {

@@ -125,7 +125,8 @@ fn properties_behind<U: UnicodeProperties>(unicode: &U, before: Awaited, c: u32)
 }
 
 // What a glyph keeps of a character that carries on the grapheme before it if it is a mark or goes on.
-#[inline]
+// (in the walk, with the look-up, as a call for each character takes longer than both)
+#[inline(always)]
 fn stored_properties<U: UnicodeProperties>(unicode: &U, goes_on: bool, c: u32) -> UnicodeProps
     ensures { let p = U.properties unicode.now in
         result ≡ stored_properties p (is_mark_character p c || goes_on) c }

@@ -71,7 +71,7 @@ impl UnicodeProperties for UnicodeTables {
         shapers_unicode::is_default_ignorable(character(c))
     }
 
-    #[inline]
+    #[inline(always)]
     fn character_kind(&self, c: u32) -> (hb_unicode_general_category_t, u8, bool) {
         shapers_unicode::character_kind(character(c))
     }

@@ -110,6 +110,7 @@ pub fn is_default_ignorable(c: char) -> bool {
 
 /// The general category of a character, the class by which a mark is ordered, and whether a font need
 /// not draw the character: all that one look-up tells.
+// (in a caller's walk, as a call for each character takes longer than the look-up)
 ///
 /// <details><summary>Contract</summary>
 ///
@@ -124,7 +125,7 @@ pub fn is_default_ignorable(c: char) -> bool {
 /// - `default_ignorable`: `crates/shapers_unicode/specs/Ignorable.antt`
 ///
 /// </details>
-#[inline]
+#[inline(always)]
 pub fn character_kind(c: char) -> (GeneralCategory, u8, bool) {
     let bits = character_bits(c);
     (

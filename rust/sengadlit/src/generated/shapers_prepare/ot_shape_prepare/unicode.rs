@@ -125,7 +125,7 @@ impl UnicodeProperties for UnicodeTables {
         crate::generated::shapers_unicode::is_default_ignorable(character(c))
     }
 
-    #[inline]
+    #[inline(always)]
     fn character_kind(&self, c: u32) -> (GeneralCategory, u8, bool) {
         crate::generated::shapers_unicode::character_kind(character(c))
     }
