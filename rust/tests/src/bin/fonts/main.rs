@@ -6,7 +6,7 @@
 //! - `fonts spoilt COUNT RANDOM FONT..`: that many fonts made of these with spoilt bytes, and that many files
 //!   of random bytes, are read and asked without a panic, each in 50 milliseconds.
 //! - `fonts shaped COUNT FONT..`: that many fonts made of these with spoilt bytes, each with a text of 1,000 of
-//!   its characters, which is shaped without a panic in five seconds, alike with the face prepared or not.
+//!   its characters, which is shaped without a panic in two seconds, alike with the face prepared or not.
 #![forbid(unsafe_code)]
 
 mod beside;
