@@ -7,8 +7,8 @@ use sengadlit_tests::numbers::Numbers;
 use std::error::Error;
 use std::time::Duration;
 
-/// How long a text may take in a font that is only parsed and in one that is prepared, together: each in
-/// a second. (The slowest of 100,000 takes 0.9 of them, with checks of overflow.)
+/// How long a text may take in a font that is only parsed and in one that is prepared, together: a
+/// second each. (In the slowest of 100,000 spoilt fonts both take 0.9 seconds, with checks of overflow.)
 pub const MOST: Duration = Duration::from_secs(2);
 /// How many characters a text has.
 const LENGTH: usize = 1000;
