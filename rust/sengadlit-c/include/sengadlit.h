@@ -512,7 +512,8 @@ typedef struct sengadlit_plan_input_t {
     sengadlit_bool_t found_script;   /* Whether that is one of the script's own tags; read for Thai alone. */
     sengadlit_bool_t has_gpos_mark;  /* Whether GPOS has the feature `mark`: read by Hebrew's compose. */
     sengadlit_bool_t centres_stretch; /* Whether the tiles of stretched marks are centred; else as rustybuzz lays them. */
-    sengadlit_bool_t sound_breaks;   /* Whether breaks are flagged too that change a text though HarfBuzz calls them safe. */
+    sengadlit_bool_t sound_breaks;   /* Whether the places are flagged, too, where HarfBuzz sets no flag although a break there
+                                        changes glyphs (BreakFlags::Sound in docs/GUIDE.md). */
     uint32_t global_mask;            /* As hb_ot_map_t::global_mask. */
     sengadlit_bool_t searches_medials; /* Whether Indic looks for a base among medial consonants too, as HarfBuzz does. */
     const sengadlit_feature_t *features; /* Of two with one tag the first counts. Each list may be null if its length is 0. */
@@ -690,8 +691,8 @@ typedef struct sengadlit_buffer_properties_t {
     sengadlit_direction_t direction; /* INVALID, which is 0, if it isn't set; hooks take it for LTR. */
     sengadlit_buffer_cluster_level_t cluster_level;
     uint32_t flags;                  /* SENGADLIT_BUFFER_FLAG_.. */
-    uint32_t max_length;             /* A hook that would make the text longer returns TOO_LONG, and a stretched mark repeats
-                                        its tiles as often as this allows. 0 if no length is set: sengadlit_shape then bounds a
+    uint32_t max_length;             /* A hook that would make the text longer returns TOO_LONG, and so does a stretched mark
+                                        that doesn't fit; a lookup that would is left out. 0 if no length is set: sengadlit_shape then bounds a
                                         text as HarfBuzz 12, by 256 times its length, or 65536 if that is more; a hook that is
                                         called by itself bounds it by 1073741823, which stands for no length, too. */
 } sengadlit_buffer_properties_t;
@@ -751,7 +752,7 @@ sengadlit_status_t sengadlit_buffer_set_content_type(sengadlit_buffer_t *buffer,
    content type, and for null. */
 sengadlit_bool_t sengadlit_buffer_is_complete(sengadlit_buffer_t *buffer);
 /* Whether it is, and no lookup of the font lacked operations, of which a text has 4096 for each character and 65536 at least, or
-   room for glyphs that it adds. Only a hostile font makes it 0 for a complete text. What sengadlit_reshape_utf8 and its siblings
+   room for glyphs that it adds. Only a hostile font, or a max_length, makes it 0 for a complete text. What sengadlit_reshape_utf8 and its siblings
    leave as it was counts as it did. */
 sengadlit_bool_t sengadlit_buffer_has_all_lookups(sengadlit_buffer_t *buffer);
 
@@ -1187,7 +1188,8 @@ void sengadlit_face_destroy(sengadlit_face_t *face);
 /* Makes tables of the face's characters, classes and lookups, by which texts are shaped faster, to the same glyphs. It takes as
    long as about a hundred words (in fonts of Chinese or Korean a thousand), so it pays for a face that shapes many texts. The
    tables take 512 KiB at most, or half as much as the font's file, where that is more. Where memory is refused there are fewer.
-   Any thread may call it at any time; a second call does nothing. `face` may be null. */
+   Any thread may call it at any time (tools that look for races don't see the atomics of Rust's standard library, and may report
+   it beside a call that shapes); a second call does nothing. `face` may be null. */
 void sengadlit_face_prepare(const sengadlit_face_t *face);
 /* What the face was made with; null for a null face. */
 void *sengadlit_face_get_user_data(const sengadlit_face_t *face);
@@ -1253,7 +1255,8 @@ typedef struct sengadlit_shape_options_t {
     uint32_t not_found_glyph;        /* For characters that the font lacks. */
     uint32_t not_found_selector_glyph; /* For variation selectors that select nothing; 0: they aren't drawn. */
     const sengadlit_font_t *font;    /* Its nominal_glyph and glyph_h_advance, where there are, in the place of the face's: widths
-                                        by hinting, or another cmap. In font units. Null: the face's own. */
+                                        by hinting, or another cmap. In font units, so that a hinted width is rounded to one: round
+                                        each advance to pixels again when you draw. Null: the face's own. */
     sengadlit_plan_cache_t *cache;   /* Null: a plan is made for the call. */
     sengadlit_bool_t old_spec_zero_context; /* Whether Indic asks the font for rules without context in fonts of the older
                                         specification, as rustybuzz does. */
@@ -1270,8 +1273,9 @@ void sengadlit_user_feature_to_string(const sengadlit_user_feature_t *feature, c
    and direction of the buffer become those by which the text was shaped; its cluster_level, flags and max_length count.
    `options` may be null. A plan that is used for more than one text is worth a cache.
    ATOMIC: unless DONE or INTERNAL is returned, the buffer has the text that it had. ARGUMENT: FACE; TEXT, RANGE, of text and
-   length; OPTIONS; DIRECTION, LANGUAGE, FEATURES, FONT, of the options; and for a null buffer. MEMORY. TOO_LONG: the text grows
-   beyond max_length, or has more than UINT32_MAX units. STRETCH_OVERFLOW. INTERNAL: only where `font` changes its results. */
+   length; OPTIONS; DIRECTION, LANGUAGE, FEATURES, FONT, of the options; and for a null buffer. MEMORY. TOO_LONG: a stretched
+   mark makes the text longer than max_length, or, where that is 0, than 256 times its length or 65536 glyphs; or it has more than
+   UINT32_MAX units. STRETCH_OVERFLOW. INTERNAL: only where `font` changes its results. */
 sengadlit_status_t sengadlit_shape_utf8(const sengadlit_face_t *face, const char *text, int text_length,
                                         const sengadlit_shape_options_t *options, sengadlit_buffer_t *buffer);
 sengadlit_status_t sengadlit_shape_utf16(const sengadlit_face_t *face, const uint16_t *text, int text_length,
