@@ -3,6 +3,7 @@ mod FirstCircleRows
 pub mod GraphemeProofs
 mod GraphemeRows
 pub mod GraphemeSteps
+pub mod JoinerFlagProofs
 mod PartedRows
 mod PropertyRows
 pub mod PropertySteps

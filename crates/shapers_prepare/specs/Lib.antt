@@ -3,6 +3,7 @@ pub mod FirstCircle
 pub mod GlyphProperties
 pub mod GraphemeLaws
 pub mod Graphemes
+pub mod JoinerFlags
 pub mod NativeDirection
 pub mod PropertyWalk
 pub mod Rotation

@@ -6,7 +6,9 @@
 //! 4. [`ensure_native_direction`] turns a text whose script runs the other way;
 //! 5. [`preprocess_text_vowel_constraints`], for the Indic and the universal shaper, parts vowels that
 //!    look like another one together;
-//! 6. [`rotate_chars`] takes mirrored characters and vertical forms that the font has.
+//! 6. [`flag_zwnj_graphemes`], for the Indic shaper, flags graphemes that begin with ZWNJ where a plan
+//!    wants the flags of [`BreakFlags::Sound`](crate::plan::BreakFlags);
+//! 7. [`rotate_chars`] takes mirrored characters and vertical forms that the font has.
 //!
 //! Normalization follows ([`ot_shape_normalize`](crate::ot_shape_normalize)). Characters are looked up
 //! by a caller's [`UnicodeProperties`]; [`UnicodeTables`](crate::unicode::UnicodeTables) is one.
@@ -28,6 +30,7 @@
 //! ```
 
 pub use crate::generated::shapers_prepare::ot_shape_prepare::{
-    BEGINNING_OF_TEXT, CharRotation, UnicodeProperties, ensure_native_direction, form_clusters,
-    insert_dotted_circle, preprocess_text_vowel_constraints, rotate_chars, set_unicode_properties,
+    BEGINNING_OF_TEXT, CharRotation, UnicodeProperties, ensure_native_direction,
+    flag_zwnj_graphemes, form_clusters, insert_dotted_circle, preprocess_text_vowel_constraints,
+    rotate_chars, set_unicode_properties,
 };

@@ -6,9 +6,11 @@ use sengadlit::alloc::Global;
 use sengadlit::buffer::UnicodeProps;
 use sengadlit::font::NominalOnly;
 use sengadlit::ot_shape_prepare::{
-    BEGINNING_OF_TEXT, CharRotation, UnicodeProperties, ensure_native_direction, form_clusters,
-    insert_dotted_circle, preprocess_text_vowel_constraints, rotate_chars, set_unicode_properties,
+    BEGINNING_OF_TEXT, CharRotation, UnicodeProperties, ensure_native_direction,
+    flag_zwnj_graphemes, form_clusters, insert_dotted_circle, preprocess_text_vowel_constraints,
+    rotate_chars, set_unicode_properties,
 };
+use sengadlit::plan::BreakFlags;
 use sengadlit::unicode::UnicodeTables;
 use sengadlit::{
     Buffer, BufferClusterLevel, BufferFlags, Direction, GeneralCategory, GlyphId, ShaperError,
@@ -231,4 +233,20 @@ fn vowels_circled() {
         characters(&parted(&[0x905, 0x946], forbidden)),
         [0x905, 0x946]
     );
+}
+
+#[test]
+fn graphemes_of_zwnj_flagged() {
+    let flagged = |characters: &[u32], breaks| -> Vec<u32> {
+        let mut buffer = text(characters);
+        flag_zwnj_graphemes(breaks, &mut buffer);
+        buffer.glyphs().iter().map(|glyph| glyph.mask).collect()
+    };
+    // ZWNJ with two marks, between letters with theirs
+    let marked = [0x915, 0x902, 0x200C, 0x93E, 0x902, 0x915, 0x93E];
+    assert_eq!(flagged(&marked, BreakFlags::Sound), [0, 0, 3, 3, 3, 0, 0]);
+    assert_eq!(flagged(&marked, BreakFlags::AsCode), [0; 7]);
+    // ZWJ carries on a grapheme; other characters without width begin theirs
+    let others = [0x915, 0x200D, 0x93E, 0x200B, 0x93E, 0x200E];
+    assert_eq!(flagged(&others, BreakFlags::Sound), [0; 6]);
 }

@@ -1,11 +1,12 @@
 // Generated from crates/shapers_prepare/src/ot_shape_prepare.rt by rust/erase; edit the source.
 
 //! A text before normalization, in the order of HarfBuzz's steps: properties, circle, clusters,
-//! direction, vowels, rotation.
+//! direction, vowels, ZWNJ's flags, rotation.
 
 mod circle;
 mod clusters;
 mod direction;
+mod joiners;
 mod properties;
 mod rotation;
 mod unicode;
@@ -15,6 +16,7 @@ mod vowels;
 pub use circle::{BEGINNING_OF_TEXT, insert_dotted_circle};
 pub use clusters::form_clusters;
 pub use direction::ensure_native_direction;
+pub use joiners::flag_zwnj_graphemes;
 pub use properties::set_unicode_properties;
 pub use rotation::{CharRotation, rotate_chars};
 pub use unicode::UnicodeProperties;
