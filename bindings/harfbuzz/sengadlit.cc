@@ -42,6 +42,23 @@ free_joining_byte (const hb_ot_shape_plan_t *plan HB_UNUSED, hb_font_t *font HB_
 
 /* ---- Hooks ---- */
 
+#ifdef SENGADLIT_SOUND
+/* What the library's own shaping flags in Indic texts: graphemes that begin with ZWNJ. */
+static void
+flag_zwnj_graphemes (hb_buffer_t *buffer)
+{
+  bool begins = false;
+  for (unsigned i = 0; i < buffer->len; i++)
+  {
+    hb_glyph_info_t &glyph = buffer->info[i];
+    if (!_hb_glyph_info_is_continuation (&glyph)) begins = glyph.codepoint == 0x200Cu;
+    if (!begins) continue;
+    glyph.mask |= HB_GLYPH_FLAG_UNSAFE_TO_BREAK | HB_GLYPH_FLAG_UNSAFE_TO_CONCAT;
+    buffer->scratch_flags |= has_glyph_flags;
+  }
+}
+#endif
+
 /* The hooks of a shaper, by its number. */
 template <unsigned shaper>
 struct proved_hooks_t
@@ -55,6 +72,9 @@ struct proved_hooks_t
     if (shaper != SENGADLIT_SHAPER_THAI && shaper != SENGADLIT_SHAPER_HANGUL) /* Indic's and the universal hook only return a result. */
     {
       _hb_preprocess_text_vowel_constraints (plan, buffer, font);
+#ifdef SENGADLIT_SOUND
+      if (shaper == SENGADLIT_SHAPER_INDIC) flag_zwnj_graphemes (buffer);
+#endif
       return;
     }
     if (shaper == SENGADLIT_SHAPER_HANGUL)

@@ -75,7 +75,7 @@ BALINESE = font([0x1B13], 2, {"init": (1, 2), "fina": (1, 3)})
 WORDS = [
     ("Syriac", "Syriac", "0715 0730 0730 0730 0730 0730 0710", 0, (True, True, False)),
     ("Devanagari, circles", "Devanagari", "093E " + "002E " * 14 + "093E", 0, (True, False, False)),
-    ("Devanagari, ZWNJ", "Devanagari", "0915 093F 0902 200C 093E", 0, (True, True, True)),
+    ("Devanagari, ZWNJ", "Devanagari", "0915 093F 0902 200C 093E", 0, (True, True, False)),
     ("Thai", THAI, "0E1B 0E33", 1, (True, True, False)),
     ("Hangul", HANGUL, "AC00 11C3", 1, (True, True, False)),
     ("Balinese", BALINESE, "1B13 1B13", 0, (True, True, False)),

@@ -168,6 +168,7 @@ const HEADINGS = [
   [/^ensure_native_direction$/, "The text is put into its script's direction"], [/^rotate_chars$/, "Characters are mirrored or rotated"],
   [/^ot_shape_normalize$/, "Characters are decomposed, sorted and composed"], [/^set_fractions$/, "Fractions are found"],
   [/^map_glyphs$/, "Characters become glyphs"], [/vowel/, "Vowels that look like others get a dotted circle"],
+  [/^flag_zwnj_graphemes$/, "Breaks around joiners are flagged"],
   [/^(run )?preprocess/, "The script's own characters are prepared"], [/^initialize_masks$/, "Features of the whole text are chosen"],
   [/^(run |setup_)masks/, "Glyphs get their features and forms"],
   [/^run marks/, "Marks are sorted as the script needs"], [/^run pause setup_syllables/, "Syllables are found"],

@@ -3,8 +3,8 @@
 
 use sengadlit::ot_shape_normalize::{ot_shape_normalize, NormalizeSettings, Rounds};
 use sengadlit::ot_shape_prepare::{
-    ensure_native_direction, form_clusters, insert_dotted_circle, preprocess_text_vowel_constraints, rotate_chars,
-    set_unicode_properties, CharRotation, BEGINNING_OF_TEXT,
+    ensure_native_direction, flag_zwnj_graphemes, form_clusters, insert_dotted_circle,
+    preprocess_text_vowel_constraints, rotate_chars, set_unicode_properties, CharRotation, BEGINNING_OF_TEXT,
 };
 use sengadlit::{BufferClusterLevel, Font};
 
@@ -93,7 +93,11 @@ impl<'p> Steps<'p> {
         at_level(self.level, text, ensure_native_direction);
         match shaper {
             None => {}
-            Some(Shaper::Indic | Shaper::Universal) => preprocess_text_vowel_constraints(text)?,
+            Some(Shaper::Indic) => {
+                preprocess_text_vowel_constraints(text)?;
+                flag_zwnj_graphemes(plan.break_flags, text);
+            }
+            Some(Shaper::Universal) => preprocess_text_vowel_constraints(text)?,
             Some(shaper) => {
                 let characters = text.glyphs().iter().map(|glyph| glyph.glyph_id);
                 if may_rewrite(*shaper, plan, characters, |c| numbers.has_glyph(c)) {

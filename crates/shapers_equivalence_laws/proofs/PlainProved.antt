@@ -13,10 +13,11 @@ use Rattle.shapers_pipeline.specs.Prepared.{Preparation, rotation_to, text_begun
 use Rattle.shapers_pipeline.specs.ShaperSteps.{preprocessed_by, preprocessed_for}
 use Rattle.shapers_prepare.specs.Rotation.{rotated_glyph}
 use Rattle.shapers_prepare.specs.UnicodeValues.{unicode_properties}
+use Rattle.shapers_prepare.specs.Vowels.{vowels_circled}
 use Rattle.shapers_equivalence_laws.specs.PreparedTexts.{PreparedTextsArePlain, PreparedTextsStayEquivalent, ShortTextsStayEquivalent, before_normalization, by_unicode, copies_class, copies_class_by}
 use Rattle.shapers_equivalence_laws.proofs.PlainGlyphs.{IsBegunGlyph, IsPlainGlyph, all-begun, all-circled, all-directed, all-plain, plain_classes, plain_selectors}
 use Rattle.shapers_equivalence_laws.proofs.PlainHangul.{all-hangul}
-use Rattle.shapers_equivalence_laws.proofs.PlainRewriting.{all-thai, all-vowels, rotated_plain}
+use Rattle.shapers_equivalence_laws.proofs.PlainRewriting.{all-thai, all-vowels, all-zwnj_flagged, rotated_plain}
 use Rattle.shapers_equivalence_laws.proofs.ShapersProved.{shapers_keep, shapers_normalize}
 
 -- a text in its own direction
@@ -34,7 +35,8 @@ shaper_plain : (plan : hb_ot_shape_plan_t) (font : Font) (b : Buffer) (shaper : 
 shaper_plain plan font b Arabic none own = all-plain b.glyphs own
 shaper_plain plan font b Hangul none own = all-hangul plan.break_flags font b none (all-plain b.glyphs own)
 shaper_plain plan font b Hebrew none own = all-plain b.glyphs own
-shaper_plain plan font b Indic none own = all-vowels b none (all-plain b.glyphs own)
+shaper_plain plan font b Indic none own =
+    all-zwnj_flagged plan.break_flags (vowels_circled b) (all-vowels b none (all-plain b.glyphs own))
 shaper_plain plan font b Khmer none own = all-plain b.glyphs own
 shaper_plain plan font b Myanmar none own = all-plain b.glyphs own
 shaper_plain plan font b MyanmarZawgyi none own = all-plain b.glyphs own

@@ -7,6 +7,8 @@ use Rattle.std.specs.Option.{option_map_or}
 use Rattle.std.proofs.lemmas.Bool.{cond_both, false≢true, or_cases, or_parts}
 use Rattle.std.proofs.lemmas.List.{reverse-append}
 use Rattle.shapers_base.specs.Font.{Font, dotted_circle, has_nominal}
+use Rattle.shapers_base.specs.declared.plan.breaks.BreakFlags.{BreakFlags}
+use Rattle.shapers_base.specs.declared.plan.breaks.BreakFlags.TheVariants.{AsCode, Sound}
 use Rattle.shapers_base.specs.declared.plan.hb_ot_shape_plan_t.{hb_ot_shape_plan_t}
 use Rattle.shapers_buffer.specs.Buffer.{Buffer}
 use Rattle.shapers_buffer.specs.Category.{has_class, is_mark}
@@ -24,6 +26,7 @@ use Rattle.shapers_buffer.proofs.MappedLists.{all-append}
 use Rattle.shapers_buffer.proofs.PropertyLemmas.{continuation_keeps}
 use Rattle.shapers_normal.specs.Sorting.{class_of, class_of_mark}
 use Rattle.shapers_normal.specs.Variants.{selects_form}
+use Rattle.shapers_prepare.specs.JoinerFlags.{begins_with_zwnj, flagged_if_zwnj, zwnj_flagged, zwnj_flagged_behind}
 use Rattle.shapers_prepare.specs.Rotation.{as_other_character, goes_backward, goes_vertically, mirrored_glyph, rotated_glyph, upright_glyph, which_font_has}
 use Rattle.shapers_prepare.specs.UnicodeValues.{unicode_properties}
 use Rattle.shapers_prepare.specs.Vowels.{left_behind, vowel_circle, vowel_script_of, vowels_circled, vowels_circled_from, vowels_circled_in}
@@ -89,6 +92,24 @@ vowels_either (Some s) gs own = all-circled_from s 0 gs own
 pub all-vowels : (b : Buffer) → list_any is_classed_circle (vowels_circled b) ≡ false
     → AllByRecursion IsPlainGlyph b.glyphs → AllByRecursion IsPlainGlyph (vowels_circled b)
 all-vowels b none own = all-unclassed (vowels_circled b) (vowels_either (vowel_script_of b) b.glyphs own) none
+
+-- ---- flags of graphemes that begin with ZWNJ
+
+plain_flagged : (begins : Bool) (g : Glyph) → IsPlainGlyph g → IsPlainGlyph (flagged_if_zwnj begins g)
+plain_flagged true g own = own
+plain_flagged false g own = own
+
+all-flagged : (before : Bool) (gs : Glyphs) → AllByRecursion IsPlainGlyph gs
+    → AllByRecursion IsPlainGlyph (zwnj_flagged_behind before gs)
+all-flagged before [] own = tt
+all-flagged before (g ∷ gs) own =
+    let begins = begins_with_zwnj before g in
+    (plain_flagged begins g own.0, all-flagged begins gs own.1)
+
+pub all-zwnj_flagged : (breaks : BreakFlags) (gs : Glyphs) → AllByRecursion IsPlainGlyph gs
+    → AllByRecursion IsPlainGlyph (zwnj_flagged breaks gs)
+all-zwnj_flagged AsCode gs own = own
+all-zwnj_flagged Sound gs own = all-flagged false gs own
 
 -- ---- SARA AM in two
 

@@ -36,6 +36,7 @@ use Rattle.shapers_prepare.specs.NativeDirection.{graphemes_reversed, graphemes_
 use Rattle.shapers_prepare.specs.Rotation.{as_other_character, mirrored_glyph, rotated_glyph, goes_backward, goes_vertically, upright_glyph, which_font_has}
 use Rattle.shapers_prepare.specs.Vowels.{circle_before_last, left_behind, vowel_circle, vowel_script_of, vowels_circled, vowels_circled_from, vowels_circled_in}
 use Rattle.shapers_prepare.specs.declared.ot_shape_prepare.rotation.CharRotation.{CharRotation}
+use Rattle.shapers_prepare.proofs.JoinerFlagProofs.{zwnj_flags_added}
 use Rattle.shapers_syllabic.specs.Characters.{with_category, with_category_and_position}
 use Rattle.shapers_text.specs.ThaiForms.{asks_for_forms, marks_flagged, preprocessed_flagged, preprocessed_in_thai, preprocessed_text, pua_shaped}
 use Rattle.shapers_text.specs.ThaiLaws.{ClustersInTwo, FlagsInTwo, KeptInTwo}
@@ -224,7 +225,14 @@ preprocessed_keeps thai hangul plan font b Thai =
           (preprocessed_in_thai plan font b).glyphs keeps.0.made.old_clusters
           (λ merging. thai plan font b (preprocessed_in_thai plan font b) merging keeps);
     }
-preprocessed_keeps thai hangul plan font b Indic = record { level = refl; glyphs = parted_kept (merges b.level) b }
+preprocessed_keeps thai hangul plan font b Indic =
+    let circled : Buffer = record b { glyphs = vowels_circled b } in
+    let new = preprocessed_by plan font b Indic in
+    after b circled new (record { level = refl; glyphs = parted_kept (merges b.level) b }) (record {
+      level = refl;
+      glyphs = same (merges circled.level) circled.glyphs new.glyphs
+          (same_clusters circled.glyphs new.glyphs (zwnj_flags_added plan.break_flags circled.glyphs));
+    })
 preprocessed_keeps thai hangul plan font b Universal = record { level = refl; glyphs = parted_kept (merges b.level) b }
 preprocessed_keeps thai hangul plan font b Arabic = unchanged b
 preprocessed_keeps thai hangul plan font b Hebrew = unchanged b

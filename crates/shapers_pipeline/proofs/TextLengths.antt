@@ -14,6 +14,7 @@ use Rattle.shapers_base.specs.Masks.{masks_stored, with_numbered_mask}
 use Rattle.shapers_base.specs.declared.plan.arabic.arabic_shape_plan_t.{arabic_shape_plan_t}
 use Rattle.shapers_base.specs.Font.{CharacterTables, Font, dotted_circle, has_nominal}
 use Rattle.shapers_base.specs.declared.font.GlyphId.{GlyphId}
+use Rattle.shapers_base.specs.declared.plan.breaks.BreakFlags.{BreakFlags}
 use Rattle.shapers_base.specs.declared.plan.breaks.BreakFlags.TheVariants.{AsCode}
 use Rattle.shapers_base.specs.declared.plan.hb_ot_shape_plan_t.{hb_ot_shape_plan_t}
 use Rattle.shapers_buffer.specs.Buffer.{Buffer}
@@ -46,9 +47,11 @@ use Rattle.shapers_prepare.specs.CharacterProperties.{CharacterProperties}
 use Rattle.shapers_prepare.specs.FirstCircle.{behind_circle, wants_first_circle}
 use Rattle.shapers_prepare.specs.GraphemeLaws.{GraphemesCover}
 use Rattle.shapers_prepare.specs.Graphemes.{clusters_formed, graphemes}
+use Rattle.shapers_prepare.specs.JoinerFlags.{zwnj_flagged}
 use Rattle.shapers_prepare.specs.NativeDirection.{graphemes_reversed, graphemes_whole, is_reversed, native_direction, opposite_direction, text_direction}
 use Rattle.shapers_prepare.specs.Rotation.{rotated_glyph}
 use Rattle.shapers_prepare.specs.Vowels.{left_behind, vowel_circle, vowel_script_of, vowels_circled, vowels_circled_from, vowels_circled_in}
+use Rattle.shapers_prepare.proofs.JoinerFlagProofs.{zwnj_flags_added}
 use Rattle.shapers_syllabic.specs.Characters.{with_category, with_category_and_position}
 use Rattle.shapers_text.specs.Thai.{glyph_rule, is_sara_am}
 use Rattle.shapers_text.specs.ThaiForms.{preprocessed_in_thai}
@@ -164,6 +167,10 @@ parted_long b =
     long_by vowels_circled_from left_behind (record { nil = λ s n. refl; cons = λ s n g gs. refl }) vowels_circled_in
     (λ gs. refl) (λ s gs. refl) (vowel_script_of b) b.glyphs
 
+flagged_long : (breaks : BreakFlags) (gs : Glyphs) → length (zwnj_flagged breaks gs) ≡ length gs
+flagged_long breaks gs = same_long gs (zwnj_flagged breaks gs)
+    (same_clusters gs (zwnj_flagged breaks gs) (zwnj_flags_added breaks gs))
+
 few_ams : (gs : Glyphs) → count_by (λ g. is_sara_am g.glyph_id) gs ≤ length gs
 few_ams gs = count_by-le-length (λ g. is_sara_am g.glyph_id) gs
 
@@ -176,7 +183,8 @@ by_shaper grows plan font b Hangul =
     omega (arith, grows Hangul plan font b (rewritten_by plan.break_flags font b) refl)
 by_shaper grows plan font b Thai =
     omega (arith, grows Thai plan font b (preprocessed_in_thai plan font b) refl, few_ams b.glyphs)
-by_shaper grows plan font b Indic = parted_long b
+by_shaper grows plan font b Indic =
+    omega (arith, flagged_long plan.break_flags (vowels_circled b), parted_long b)
 by_shaper grows plan font b Universal = parted_long b
 by_shaper grows plan font b Arabic = once (length b.glyphs)
 by_shaper grows plan font b Hebrew = once (length b.glyphs)

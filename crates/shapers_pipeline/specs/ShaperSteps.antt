@@ -11,6 +11,7 @@ use Rattle.shapers_buffer.specs.Glyphs.{Glyphs}
 use Rattle.shapers_buffer.specs.declared.buffer.tag.Script.{Script}
 use Rattle.shapers_hangul.specs.Hangul.{rewritten, rewritten_by}
 use Rattle.shapers_hangul.specs.Masks.{with_jamo_masks}
+use Rattle.shapers_prepare.specs.JoinerFlags.{zwnj_flagged}
 use Rattle.shapers_prepare.specs.Vowels.{vowels_circled}
 use Rattle.shapers_syllabic.specs.Characters.{with_category, with_category_and_position}
 use Rattle.shapers_text.specs.Thai.{glyphs_in_two}
@@ -21,11 +22,13 @@ use Rattle.rustybuzz_shapers.specs.Hooks.{GlyphsFit, PlanFits}
 use Rattle.rustybuzz_shapers.specs.declared.shaper.hb_ot_shaper_t.{hb_ot_shaper_t}
 use Rattle.rustybuzz_shapers.specs.declared.shaper.hb_ot_shaper_t.TheVariants.{Arabic, Hangul, Indic, Khmer, Myanmar, Thai, Universal}
 
--- the text that a shaper's preprocessing makes: jamo and SARA AM, and circles between vowels
+-- the text that a shaper's preprocessing makes: jamo and SARA AM, circles between vowels, and in
+-- Indic texts what the choice flags
 abbrev pub preprocessed_by : hb_ot_shape_plan_t → Font → Buffer → hb_ot_shaper_t → Buffer
 preprocessed_by plan font b Hangul = rewritten_by plan.break_flags font b
 preprocessed_by plan font b Thai = preprocessed_in_thai plan font b
-preprocessed_by plan font b Indic = record b { glyphs = vowels_circled b }
+preprocessed_by plan font b Indic =
+    record b { glyphs = zwnj_flagged plan.break_flags (vowels_circled b) }
 preprocessed_by plan font b Universal = record b { glyphs = vowels_circled b }
 preprocessed_by plan font b shaper = b
 

@@ -9,10 +9,10 @@ use rustybuzz_shapers::shaper::hb_ot_shaper_t;
 use shapers_base::buffer::{ShaperError, hb_buffer_t};
 use shapers_base::font::{Tables, hb_font_t};
 use shapers_base::plan::hb_ot_shape_plan_t;
-use shapers_prepare::ot_shape_prepare::preprocess_text_vowel_constraints;
+use shapers_prepare::ot_shape_prepare::{flag_zwnj_graphemes, preprocess_text_vowel_constraints};
 
 // Rewrites a text as its shaper wants it. The shapers that leave the vowel constraints to their
-// caller have no other preprocessing.
+// caller have no other preprocessing, but for the flags that the choice adds in Indic texts.
 pub(crate) fn preprocess_text<F: hb_font_t>(
     shaper: Option<hb_ot_shaper_t>,
     plan: &hb_ot_shape_plan_t,
@@ -31,9 +31,12 @@ pub(crate) fn preprocess_text<F: hb_font_t>(
     // so that a return with nothing changed keeps the promise on lengths, too
     prove!(buffer.len() <= buffer.max_len());
     match shaper {
-        Some(hb_ot_shaper_t::Indic | hb_ot_shaper_t::Universal) => {
-            preprocess_text_vowel_constraints(buffer)
+        Some(hb_ot_shaper_t::Indic) => {
+            preprocess_text_vowel_constraints(buffer)?;
+            flag_zwnj_graphemes(plan.break_flags, buffer);
+            Ok(())
         }
+        Some(hb_ot_shaper_t::Universal) => preprocess_text_vowel_constraints(buffer),
         Some(shaper) => {
             shaper.preprocess_text(plan, face, buffer)?;
             Ok(())

@@ -4,6 +4,7 @@ pub mod GraphemeProofs
 mod GraphemeRows
 pub mod GraphemeSteps
 pub mod JoinerFlagProofs
+mod JoinerFlagRows
 mod PartedRows
 mod PropertyRows
 pub mod PropertySteps

@@ -189,6 +189,22 @@ fn results_are_verified() {
     );
 }
 
+// The syllable takes ZWNJ to its front, in the cluster of its first letter. Behind it a vowel sign is
+// left of ZWNJ's grapheme, a syllable of its own.
+#[test]
+fn with_sound_no_break_is_allowed_where_zwnj_moves_away() {
+    let word = "\u{915}\u{93F}\u{902}\u{200C}\u{93E}";
+    let arguments = [sample_font(), "--verify", "--always", "--text", word];
+    let done = run(&arguments);
+    assert_eq!(done.status, Some(3), "{done:?}");
+    assert!(done.error.contains("unsafe-to-break"), "{done:?}");
+    let glyphs = shaped(&["--verify", "--always", "--sound", "--show-flags"], word);
+    assert!(
+        glyphs.ends_with("dottedcircle=3+600#1|aaMatra-deva=3+240#1]\n"),
+        "{glyphs}"
+    );
+}
+
 #[test]
 fn files_of_output() {
     let folder = common::Scratch::new("files");

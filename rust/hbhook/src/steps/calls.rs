@@ -9,9 +9,10 @@ use crate::whole_font::WholeFont;
 use crate::word::{PREPROCESS, name_of_pause};
 use sengadlit::ot_shape_normalize::ot_shape_normalize;
 use sengadlit::ot_shape_prepare::{
-    BEGINNING_OF_TEXT, CharRotation, ensure_native_direction, form_clusters, insert_dotted_circle,
-    preprocess_text_vowel_constraints, rotate_chars, set_unicode_properties,
+    BEGINNING_OF_TEXT, CharRotation, ensure_native_direction, flag_zwnj_graphemes, form_clusters,
+    insert_dotted_circle, preprocess_text_vowel_constraints, rotate_chars, set_unicode_properties,
 };
+use sengadlit::plan::BreakFlags;
 use sengadlit::shaper::Hook;
 use sengadlit::unicode::UnicodeTables;
 use sengadlit::{Buffer, GlyphProps, Pause};
@@ -25,6 +26,7 @@ pub(super) enum Call {
     Graphemes,
     Direction,
     Vowels,
+    Joiners,
     Preprocessing,
     Rotation,
     Normalization,
@@ -34,13 +36,19 @@ pub(super) enum Call {
     Pause(Pause),
 }
 
-/// The steps of a text that goes this way, in order; the circle in front is for the beginning of one.
+/// The steps of a text that goes this way, in order; the circle in front is for the beginning of one,
+/// and the flags of joiners are for the choice `Sound`.
 pub(super) fn calls_of(way: &Way, shaper: Shaper, is_beginning: bool) -> Vec<Call> {
     let mut calls = vec![Call::GlobalMask, Call::Properties];
     calls.extend(is_beginning.then_some(Call::FirstCircle));
     calls.extend([Call::Graphemes, Call::Direction]);
     match shaper {
-        Shaper::Indic | Shaper::Universal => calls.push(Call::Vowels),
+        Shaper::Indic => {
+            let is_sound = way.plan.plan().break_flags == BreakFlags::Sound;
+            calls.push(Call::Vowels);
+            calls.extend(is_sound.then_some(Call::Joiners));
+        }
+        Shaper::Universal => calls.push(Call::Vowels),
         _ if shaper.has_hook(Hook::PreprocessText) => calls.push(Call::Preprocessing),
         _ => {}
     }
@@ -61,6 +69,7 @@ impl Call {
             Call::Graphemes => "form_clusters".into(),
             Call::Direction => "ensure_native_direction".into(),
             Call::Vowels => "preprocess_text_vowel_constraints".into(),
+            Call::Joiners => "flag_zwnj_graphemes".into(),
             Call::Preprocessing => "preprocess_text".into(),
             Call::Rotation => "rotate_chars".into(),
             Call::Normalization => "ot_shape_normalize".into(),
@@ -80,6 +89,7 @@ impl Call {
             Call::Graphemes => Some(("shapers_prepare", "Graphemes")),
             Call::Direction => Some(("shapers_prepare", "NativeDirection")),
             Call::Vowels => Some(("shapers_prepare", "Vowels")),
+            Call::Joiners => Some(("shapers_prepare", "JoinerFlags")),
             Call::Preprocessing => subject_of(PREPROCESS, shaper?),
             Call::Rotation => Some(("shapers_prepare", "Rotation")),
             Call::Normalization => Some(("shapers_normal", "Normalization")),
@@ -106,6 +116,7 @@ impl Call {
             Call::Graphemes => form_clusters(buffer),
             Call::Direction => ensure_native_direction(buffer),
             Call::Vowels => preprocess_text_vowel_constraints(buffer)?,
+            Call::Joiners => flag_zwnj_graphemes(plan.break_flags, buffer),
             Call::Preprocessing => {
                 if let Some(shaper) = way.plan.shaper() {
                     shaper.preprocess_text(plan, font, buffer)?;

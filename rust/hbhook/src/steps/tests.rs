@@ -148,9 +148,22 @@ fn a_text_takes_the_steps_of_its_shaper() {
         ]
     );
     assert_eq!(
-        heads("\u{0905}\u{0906}")[5],
-        "preprocess_text_vowel_constraints"
+        heads("\u{0905}\u{0906}")[5..7],
+        ["preprocess_text_vowel_constraints", "rotate_chars"]
     );
+}
+
+#[test]
+fn with_sound_a_text_of_indic_has_its_joiners_flagged() {
+    let choices = Choices {
+        is_sound: true,
+        ..Choices::default()
+    };
+    let steps = Steps::of_text("\u{0915}\u{200C}\u{093E}", &choices).unwrap();
+    let flagged = &steps.steps[6];
+    assert_eq!(flagged.heads, ["flag_zwnj_graphemes"]);
+    let flags: Vec<u32> = flagged.glyphs.iter().map(|it| it.mask & 7).collect();
+    assert_eq!(flags, [0, 3, 3]);
 }
 
 // Normalization leaves the numbers of glyphs where the marks of lookups stand: they aren't marks.

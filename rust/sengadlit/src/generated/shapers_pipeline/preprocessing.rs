@@ -7,10 +7,12 @@ use crate::generated::rustybuzz_shapers::shaper::checked::Condition;
 use crate::generated::shapers_base::buffer::{Buffer, ShaperError};
 use crate::generated::shapers_base::font::{Font, Tables};
 use crate::generated::shapers_base::plan::Plan;
-use crate::generated::shapers_prepare::ot_shape_prepare::preprocess_text_vowel_constraints;
+use crate::generated::shapers_prepare::ot_shape_prepare::{
+    flag_zwnj_graphemes, preprocess_text_vowel_constraints,
+};
 
 // Rewrites a text as its shaper wants it. The shapers that leave the vowel constraints to their
-// caller have no other preprocessing.
+// caller have no other preprocessing, but for the flags that the choice adds in Indic texts.
 pub(crate) fn preprocess_text<F: Font>(
     shaper: Option<Shaper>,
     plan: &Plan,
@@ -18,7 +20,12 @@ pub(crate) fn preprocess_text<F: Font>(
     buffer: &mut Buffer,
 ) -> Result<(), ShaperError> {
     match shaper {
-        Some(Shaper::Indic | Shaper::Universal) => preprocess_text_vowel_constraints(buffer),
+        Some(Shaper::Indic) => {
+            preprocess_text_vowel_constraints(buffer)?;
+            flag_zwnj_graphemes(plan.break_flags, buffer);
+            Ok(())
+        }
+        Some(Shaper::Universal) => preprocess_text_vowel_constraints(buffer),
         Some(shaper) => {
             shaper.preprocess_text(plan, face, buffer)?;
             Ok(())
