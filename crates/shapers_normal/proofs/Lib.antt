@@ -28,3 +28,5 @@ pub mod Monotone
 pub mod Pairs
 pub mod StayingTexts
 pub mod OneWay
+mod NumberedWordRows
+pub mod NumberedWords

@@ -3,6 +3,7 @@ pub mod Decomposition
 pub mod DecompositionWalk
 pub mod Laws
 pub mod Normalization
+pub mod NumberedWords
 pub mod Properties
 pub mod Recomposition
 pub mod RecompositionWalk

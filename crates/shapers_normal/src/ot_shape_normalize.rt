@@ -4,6 +4,7 @@ mod context;
 mod decomposing;
 mod laws;
 mod normalizing;
+mod numbering;
 mod properties;
 mod recomposing;
 mod sorting;

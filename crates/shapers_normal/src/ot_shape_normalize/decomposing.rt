@@ -483,7 +483,7 @@ fn way_alone(mode: NormalizationMode) -> Way
 
 // Whether a shaper leaves a character whole that no mark follows.
 #[inline]
-fn is_short_alone(mode: NormalizationMode) -> bool
+pub(super) fn is_short_alone(mode: NormalizationMode) -> bool
     ensures { result ≡ is_short_alone mode }
 {
     match mode {

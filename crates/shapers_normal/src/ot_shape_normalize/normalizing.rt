@@ -9,6 +9,7 @@ ghost use Rattle.shapers_normal.specs.Sorting.{is_mark_glyph, marks_ordered};
 
 use super::context::NormalizeContext;
 use super::decomposing::decompose;
+use super::numbering::number_word;
 use super::properties::GRAPHEME_JOINER;
 use super::recomposing::recompose_in;
 use super::sorting::{class, is_mark, order_marks_in};
@@ -50,6 +51,11 @@ pub fn normalize<C: NormalizeContext>(
         stays_together context buffer.old.glyphs ≡ true → IsOk result }
     ensures err { OnErr result (buffer.new ≡ buffer.old) }
 {
+    // so that a return at once keeps the promise on lengths, too
+    prove!(buffer.len() <= buffer.max_len());
+    if number_word(context, buffer) {
+        return Ok(());
+    }
     let runs = has_rounds(rounds, buffer.glyphs());
     decompose(context, buffer)?;
     if !runs && !has_joiner(buffer.glyphs()) {

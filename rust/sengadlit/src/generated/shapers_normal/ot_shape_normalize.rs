@@ -6,6 +6,7 @@ mod context;
 mod decomposing;
 mod laws;
 mod normalizing;
+mod numbering;
 mod properties;
 mod recomposing;
 mod sorting;

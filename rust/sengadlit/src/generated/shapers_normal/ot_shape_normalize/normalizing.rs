@@ -4,6 +4,7 @@
 
 use super::context::NormalizeContext;
 use super::decomposing::decompose;
+use super::numbering::number_word;
 use super::properties::GRAPHEME_JOINER;
 use super::recomposing::recompose_in;
 use super::sorting::{class, is_mark, order_marks_in};
@@ -68,6 +69,9 @@ pub fn normalize<C: NormalizeContext>(
     rounds: Rounds,
     buffer: &mut Buffer,
 ) -> Result<(), ShaperError> {
+    if number_word(context, buffer) {
+        return Ok(());
+    }
     let runs = has_rounds(rounds, buffer.glyphs());
     decompose(context, buffer)?;
     if !runs && !has_joiner(buffer.glyphs()) {
