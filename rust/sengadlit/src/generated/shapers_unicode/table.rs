@@ -5,7 +5,8 @@
 
 /// The value of a code point: by its block as far as the index goes, and by the tail after that, whose
 /// entries are the end of a range and the value below it.
-#[inline]
+// (in a caller's walk, as a call for each character takes longer than the look-up)
+#[inline(always)]
 pub(crate) fn value_of<const SIZE: usize>(
     index: &[u8],
     blocks: &[[u8; SIZE]],
