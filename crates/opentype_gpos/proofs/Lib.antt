@@ -21,4 +21,4 @@ mod CursiveRows
 mod ContextRows
 mod LookedRows
 mod Paired
-mod Passing
+pub mod Passing

@@ -60,7 +60,7 @@ pub record EndsAs (gs : Glyphs) (ps : Positions) (end : Progress) : Type 0 where
   pub glyphs : gs ≡ end.glyphs
   pub positions : ps ≡ end.positions
 
-ends_as : (gs : Glyphs) (ps : Positions) (at : ℕ) (end : Progress) →
+pub ends_as : (gs : Glyphs) (ps : Positions) (at : ℕ) (end : Progress) →
     end ≡ record { glyphs = gs; positions = ps; next = at } → EndsAs gs ps end
 ends_as gs ps at end e =
     let g : Progress → Glyphs = λ c. c.glyphs in
