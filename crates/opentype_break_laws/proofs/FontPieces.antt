@@ -136,12 +136,12 @@ one_for_one_leaves numbered text gdef gsub lookup b puts =
 
 -- ---- A LOOKUP THAT BEGINS NOWHERE
 
-all_by : {X : Type 0} (P Q : X → Type 0) (h : X → X) → ((x : X) → P x → Q (h x)) → (xs : List X) → AllByRecursion P xs
+pub all_by : {X : Type 0} (P Q : X → Type 0) (h : X → X) → ((x : X) → P x → Q (h x)) → (xs : List X) → AllByRecursion P xs
     → AllByRecursion Q (map h xs)
 all_by P Q h is [] all = tt
 all_by P Q h is (x ∷ xs) all = (is x all.0, all_by P Q h is xs all.1)
 
-all_unmapped : {X : Type 0} (P Q : X → Type 0) (h : X → X) → ((x : X) → Q (h x) → P x) → (xs : List X)
+pub all_unmapped : {X : Type 0} (P Q : X → Type 0) (h : X → X) → ((x : X) → Q (h x) → P x) → (xs : List X)
     → AllByRecursion Q (map h xs) → AllByRecursion P xs
 all_unmapped P Q h is [] all = tt
 all_unmapped P Q h is (x ∷ xs) all = (is x all.0, all_unmapped P Q h is xs all.1)

@@ -13,7 +13,13 @@ pub mod SequencePieces
 pub mod FontPieces
 pub mod TwoSingles
 pub mod OneAsTwo
+pub mod PlacedPieces
+pub mod SingleMoves
+pub mod FontPositions
+pub mod TextPositions
+pub mod TwoAdjustments
 mod OneForOneRows
 mod LigatureFontRows
 mod SequenceRows
 mod ContextRows
+mod PositionRows

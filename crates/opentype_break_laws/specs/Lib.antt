@@ -4,3 +4,6 @@ pub mod Sequences
 pub mod FontPieces
 pub mod TwoSingles
 pub mod OneAsTwo
+pub mod PlacedPieces
+pub mod FontPositions
+pub mod TwoAdjustments

@@ -1,14 +1,18 @@
-//! What the lookups of a font leave of a text's pieces: laws, and two fonts that they are read for.
+//! What the lookups of a font leave of a text's pieces: laws, and three fonts that they are read for.
 #![tactic(auto)]
 
 ghost use Rattle.opentype_break_laws.specs.FontPieces.{FontLookupsLeavePieces, FontRunsLeavePieces, FontTextsBreak, OneForOneGoesByPieces};
 ghost use Rattle.opentype_break_laws.specs.Sequences.{PresenceCompares};
 
+mod font_positions;
 mod one_as_two;
+mod two_adjustments;
 mod two_singles;
 
+pub use font_positions::font_positions_law;
 pub use one_as_two::substitute_sequence;
 use shapers_editing::pipeline_breaks_law;
+pub use two_adjustments::adjust_glyphs;
 pub use two_singles::substitute_two;
 
 /// A lookup of a font whose subtables put one glyph for one (types 1 and 3, with no alternate picked

@@ -1,0 +1,18 @@
+use Rattle.opentype_break_laws.proofs.FontPositions.{lookups_leave, runs_leave, singles_go}
+use Rattle.opentype_break_laws.proofs.TextPositions.{staged_break, texts_break}
+use Rattle.opentype_break_laws.proofs.font_positions.font_positions_law.Goals as goal
+
+pub returns-clause-lookups : goal.returns-clause-lookups
+returns-clause-lookups c = lookups_leave
+
+pub returns-clause-runs : goal.returns-clause-runs
+returns-clause-runs c = runs_leave
+
+pub returns-clause-singles : goal.returns-clause-singles
+returns-clause-singles c = singles_go
+
+pub returns-clause-texts : goal.returns-clause-texts
+returns-clause-texts c = texts_break
+
+pub returns-clause-stages : goal.returns-clause-stages
+returns-clause-stages c = staged_break c.pipeline_breaks_law.ensures.stages

@@ -1,0 +1,19 @@
+//! What the lookups of a font's GPOS leave of the positions of a text's pieces: laws.
+ghost use Rattle.opentype_break_laws.specs.FontPositions.{FontLookupsLeavePositions, FontPositionsBreak, FontRunsLeavePositions, FontStagesBreak, SinglesMoveByPieces};
+
+use shapers_editing::pipeline_breaks_law;
+
+/// A lookup of a font that adjusts single glyphs (type 1), and a lookup of any type that begins at no
+/// glyph of the text, leaves the positions of the text's pieces side by side. So do such lookups one
+/// after another; and a text that is positioned by them may be broken at every clear place, from its
+/// advances on and up to attachments, before it is turned to its drawing order. So may one that
+/// lookups of the font substitute in stages before.
+pub fn font_positions_law()
+    ensures lookups { FontLookupsLeavePositions }
+    ensures runs { FontRunsLeavePositions }
+    ensures singles { SinglesMoveByPieces }
+    ensures texts { FontPositionsBreak }
+    ensures stages { FontStagesBreak }
+{
+    pipeline_breaks_law();
+}
