@@ -23,3 +23,4 @@ mod LigatureFontRows
 mod SequenceRows
 mod ContextRows
 mod PositionRows
+mod UnflaggedRows
