@@ -161,7 +161,7 @@ value_held : (s : Setting) (table : List ℕ) (g : Glyph)
 unfolding sights_of sight_of_input
 value_held s table g = refl
 
-comes : (s : Setting) (table : List ℕ) (gs : Glyphs) (at : ℕ) (r : LookupRecord) → PutOneForOne s.lookup.random table
+pub comes : (s : Setting) (table : List ℕ) (gs : Glyphs) (at : ℕ) (r : LookupRecord) → PutOneForOne s.lookup.random table
     → at < length gs → came_in s table gs at r ≡ option_map (as_change s at gs r)
     (found_by table (two_byte_number gs at) (value_by s.lookup.mask (bit_and (glyph_at gs at).mask s.lookup.mask)))
 comes s table gs at r all lt =
@@ -188,7 +188,7 @@ unlooked s sights table gs at i is =
     ap (looked_by s.gdef sights.input sights.context s.len gs at)
     (no_rules s.lookup.random (type_in 7 table i) (subtable_in 7 table i) (two_byte_number gs at) is)
 
-still_tried : (s : Setting) (table : List ℕ) (gs : Glyphs) (at : ℕ) → PutOneForOne s.lookup.random table
+pub still_tried : (s : Setting) (table : List ℕ) (gs : Glyphs) (at : ℕ) → PutOneForOne s.lookup.random table
     → tried s table gs at ≡ gs
 unfolding tried lookup_looked
 still_tried s table gs at all =
@@ -219,7 +219,7 @@ abbrev pub changed : List ℕ → LookupUse → List ℕ → Glyph → Glyph
 changed gdef use_of table g = put_if gdef (is_seen gdef use_of table g)
     (found_by table (g.glyph_id % 65536) (value_by use_of.mask (bit_and g.mask use_of.mask))) g
 
-steps_each : (s : Setting) (table : List ℕ) → PutOneForOne s.lookup.random table
+pub steps_each : (s : Setting) (table : List ℕ) → PutOneForOne s.lookup.random table
     → IsEach (changed s.gdef s.lookup table) (lookup_stepped s table)
 unfolding lookup_stepped nested
 steps_each s table all = record {

@@ -10,7 +10,15 @@ pub mod LigatureNumbers
 pub mod SequenceViews
 pub mod SequenceCuts
 pub mod SequencePieces
+pub mod ContextFits
+pub mod ContextRules
+pub mod ContextTurns
+pub mod ContextSteps
+pub mod ContextWalk
+pub mod ContextParts
+pub mod ContextPieces
 pub mod FontPieces
+pub mod ContextRuns
 pub mod TwoSingles
 pub mod OneAsTwo
 pub mod PlacedPieces
@@ -24,3 +32,4 @@ mod SequenceRows
 mod ContextRows
 mod PositionRows
 mod UnflaggedRows
+mod ContextTextRows

@@ -72,7 +72,7 @@ by_one None rest other from at p on e = on e
 by_one (Some true) rest other from at p on e = ap (option_map (λ q. from + q)) e
 by_one (Some false) rest other from at p on e = absurd (cc)
 
-next_found : (n m : ℕ) (f h : ℕ → Option Bool) (from at : ℕ) → ((i : ℕ) → at ≤ i → i < at + n → f i ≡ h (from + i))
+pub next_found : (n m : ℕ) (f h : ℕ → Option Bool) (from at : ℕ) → ((i : ℕ) → at ≤ i → i < at + n → f i ≡ h (from + i))
     → n ≤ m → (p : ℕ) → next_from n f at ≡ Some p → next_from m h (from + at) ≡ Some (from + p)
 unfolding next_from
 next_found zero m f h from at same few p e = absurd (cc)
@@ -330,7 +330,7 @@ together_moved gdef sight gs from at (Some ps) none =
     ap (λ b. if b then None else Some (places_behind from ps))
     (any_moved (is_apart gdef sight gs (from + at)) from (λ i. apart_never gdef sight gs from at i none) ps)
 
-together_here : (gdef : List ℕ) (sight : Sight) (gs : Glyphs) (at : ℕ) (o : Option (List ℕ)) → HasNoComponents gs
+pub together_here : (gdef : List ℕ) (sight : Sight) (gs : Glyphs) (at : ℕ) (o : Option (List ℕ)) → HasNoComponents gs
     → if_together gdef sight gs at o ≡ o
 together_here gdef sight gs at None all = refl
 together_here gdef sight gs at (Some ps) all =
@@ -417,7 +417,7 @@ kept_by None rest other at q on e = on e
 kept_by (Some true) rest other at q on e = e
 kept_by (Some false) rest other at q on e = absurd (cc)
 
-next_least : (n : ℕ) (f : ℕ → Option Bool) (at q : ℕ) → next_from n f at ≡ Some q → at ≤ q
+pub next_least : (n : ℕ) (f : ℕ → Option Bool) (at q : ℕ) → next_from n f at ≡ Some q → at ≤ q
 unfolding next_from
 next_least zero f at q e = absurd (cc)
 next_least (suc n) f at q e = least_by (f at) (next_from n f (at + 1)) at q (λ r. omega (arith, next_least n f (at + 1) q r)) e
@@ -433,7 +433,7 @@ next_kept (suc n) (suc m) f h at q same e lt =
     (kept_by (h at) (next_from m h (at + 1)) (next_from n f (at + 1)) at q
     (λ r. next_kept n m f h (at + 1) q (λ i low high. same i (omega (arith, low)) (omega (arith, high))) r (omega (arith, lt))) e)
 
-unmapped : (p : ℕ) (o : Option (List ℕ)) (ps : List ℕ) → option_map (λ l. p ∷ l) o ≡ Some ps
+pub unmapped : (p : ℕ) (o : Option (List ℕ)) (ps : List ℕ) → option_map (λ l. p ∷ l) o ≡ Some ps
     → (rest : List ℕ) × ((o ≡ Some rest) × (ps ≡ p ∷ rest))
 unmapped p None ps e = absurd (cc)
 unmapped p (Some l) ps e = (l, (refl, sym (ap (λ (o : Option (List ℕ)). unwrap_or o []) e)))
@@ -567,7 +567,7 @@ below_by None rest n at q on e = on e
 below_by (Some true) rest n at q on e = omega (arith, ap (λ (o : Option ℕ). unwrap_or o 0) e)
 below_by (Some false) rest n at q on e = absurd (cc)
 
-next_below : (n : ℕ) (f : ℕ → Option Bool) (at q : ℕ) → next_from n f at ≡ Some q → q < at + n
+pub next_below : (n : ℕ) (f : ℕ → Option Bool) (at q : ℕ) → next_from n f at ≡ Some q → q < at + n
 unfolding next_from
 next_below zero f at q e = absurd (cc)
 next_below (suc n) f at q e = below_by (f at) (next_from n f (at + 1)) n at q (λ r. omega (arith, next_below n f (at + 1) q r)) e
@@ -590,7 +590,7 @@ places_climb (suc n) next end within k at ps e =
     (λ q r. (let w = within k (at + 1) q r in (omega (arith, w.0), w.1)))
     (λ p rest r. places_climb n next end within (k + 1) p rest r) e
 
-input_climbs : (gdef : List ℕ) (sight : Sight) (test : ℕ → ℕ → Bool) (count : ℕ) (gs : Glyphs) (at : ℕ) (ps : List ℕ)
+pub input_climbs : (gdef : List ℕ) (sight : Sight) (test : ℕ → ℕ → Bool) (count : ℕ) (gs : Glyphs) (at : ℕ) (ps : List ℕ)
     → HasNoComponents gs → input_in gdef sight test count gs at ≡ Some ps → Climbs at ps (length gs)
 unfolding input_in
 input_climbs gdef sight test count gs at ps all e =

@@ -19,11 +19,11 @@ use Rattle.opentype_break_laws.proofs.LigatureModel.{component_kept, flood_all, 
 
 -- ---- THE LAST PLACE
 
-last_read : (x : ℕ) (xs : List ℕ) → slice_index (x ∷ xs) (length xs) ≡ last_of x xs
+pub last_read : (x : ℕ) (xs : List ℕ) → slice_index (x ∷ xs) (length xs) ≡ last_of x xs
 last_read x [] = refl
 last_read x (z ∷ zs) = last_read z zs
 
-last_moved : (from x : ℕ) (xs : List ℕ) → last_of (from + x) (places_behind from xs) ≡ from + last_of x xs
+pub last_moved : (from x : ℕ) (xs : List ℕ) → last_of (from + x) (places_behind from xs) ≡ from + last_of x xs
 last_moved from x [] = refl
 last_moved from x (z ∷ zs) = last_moved from z zs
 

@@ -1,7 +1,9 @@
 pub mod OneForOne
 pub mod OrderedTexts
 pub mod Sequences
+pub mod Contexts
 pub mod FontPieces
+pub mod FontContexts
 pub mod TwoSingles
 pub mod OneAsTwo
 pub mod PlacedPieces

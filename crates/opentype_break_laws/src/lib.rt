@@ -2,6 +2,7 @@
 #![tactic(auto)]
 
 ghost use Rattle.opentype_break_laws.specs.FontPieces.{FontLookupsLeavePieces, FontRunsLeavePieces, FontTextsBreak, OneForOneGoesByPieces};
+ghost use Rattle.opentype_break_laws.specs.FontContexts.{ContextRunsLeavePieces, ContextsLeavePieces, ShortTextsFlag};
 ghost use Rattle.opentype_break_laws.specs.Sequences.{PresenceCompares};
 
 mod font_positions;
@@ -31,3 +32,13 @@ pub fn font_pieces_law()
 {
     pipeline_breaks_law();
 }
+
+/// A lookup of contexts (types 5 and 6) whose rules put one glyph for one leaves the pieces' results
+/// of a text side by side. Each rule that fits has to flag what it looked at, as in every text of at
+/// most 255 glyphs, and both the text and its pieces need operations for a rule at each glyph. So do
+/// such lookups, and those that put one glyph for one, one after another.
+pub fn font_contexts_law()
+    ensures pieces { ContextsLeavePieces }
+    ensures short { ShortTextsFlag }
+    ensures runs { ContextRunsLeavePieces }
+{}
