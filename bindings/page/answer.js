@@ -45,11 +45,51 @@ function misplacedMark(text, steps) {
   return place < 0 ? null : [[...typed][place], [...usual][place]];
 }
 
-// The characters before which the hooks put a dotted circle.
-function circled(text, steps) {
+// The cluster level at which no clusters merge: there a dotted circle has the place of the character for which it is drawn.
+const UNMERGED = "2";
+// How many broken syllables are told one by one.
+const MOST_BROKEN = 3;
+
+// The places of these circles among a text's glyphs, but for circles that are typed.
+function circledPlaces(text, glyphs, circle) {
   const characters = [...text];
-  const circles = glyphsOf(steps.at(-1)).filter(({ number }) => number === "25cc").map(({ cluster }) => cluster);
-  return [...new Set(circles)].map((place) => characters[place]).filter((c) => c !== undefined && c !== "\u25cc");
+  const places = glyphs.filter(({ number }) => number === circle).map(({ cluster }) => cluster);
+  return [...new Set(places)].filter((place) => (characters[place] ?? "\u25cc") !== "\u25cc").sort((a, b) => a - b);
+}
+
+// The places of the characters before which the script's rules put a dotted circle.
+function brokenPlaces(text, shown) {
+  if (!glyphsOf(shown?.steps.at(-1)).some(({ number }) => number === "25cc")) return [];
+  return circledPlaces(text, glyphsOf(stepsAt(UNMERGED, text)?.steps.at(-1)), "25cc");
+}
+
+// The places of the characters before which a dotted circle is drawn in the font; null where the font has none.
+function drawnPlaces(text) {
+  const circle = glyphsOf(shapedText("\u25cc")?.steps.at(-1))[0]?.number ?? "0000";
+  return circle === "0000" ? null : circledPlaces(text, (shapedText(text, UNMERGED)?.steps ?? []).flatMap(glyphsOf), circle);
+}
+
+const ordinal = (number) => number + (/1[123]$/.test(number) ? "th" : { 1: "st", 2: "nd", 3: "rd" }[number % 10] ?? "th");
+
+// What is told of broken syllables, and of a mark at the start, which may be one.
+function brokenSentences(text, shown) {
+  const characters = [...text];
+  const broken = brokenPlaces(text, shown);
+  const drawn = broken.length ? drawnPlaces(text) : [];
+  const isMark = /^\p{M}/u.test(text);
+  const circleOf = (place) => {
+    if (drawn === null && broken.includes(place)) return "; a dotted circle belongs there, which this font doesn't have.";
+    return drawn?.includes(place) ? ", so a dotted circle is drawn for it." : ".";
+  };
+  const sentences = isMark ? [`It begins with a mark that has no letter: ${named(characters[0])}${circleOf(0)}`] : [];
+  const others = broken.filter((place) => place > 0 || !isMark);
+  for (const place of others.slice(0, MOST_BROKEN)) {
+    const nth = `the ${ordinal(place + 1)} character`;
+    const why = place === 0 ? "can't stand alone" : "can't follow what stands before it";
+    sentences.push(`It has a broken syllable: ${named(characters[place])}, ${nth}, ${why}${circleOf(place)}`);
+  }
+  if (others.length > MOST_BROKEN) sentences.push(`Of broken syllables it has ${others.length} in all.`);
+  return sentences;
 }
 
 // The characters of the text that the script has drawn before what they follow.
@@ -65,8 +105,7 @@ function findingsOfText(text, shown) {
   if (/\p{Cc}/u.test(text)) found.push(finding("text", "It has a control character, such as a TAB or the end of a line. A box in the picture is the font's glyph for a character that it lacks. Try each line or column alone."));
   const mark = misplacedMark(text, shown?.steps ?? []);
   if (mark) found.push(finding("text", `Its marks stand in an unusual order: ${named(mark[0])} stands where ${named(mark[1])} is usual. The word is drawn in the usual order.`));
-  const broken = circled(text, shown?.steps ?? []);
-  if (broken.length) found.push(finding("text", `It has a broken syllable: ${broken.map(named).join(", ")} has no letter to belong to, and gets a dotted circle.`));
+  found.push(...brokenSentences(text, shown).map((sentence) => finding("text", sentence)));
   const moved = movedCharacters(text, shown?.steps ?? []);
   if (moved.length) found.push(finding("script", `${moved.map(named).join(", ")} is drawn before the letters that it follows in the text; that is how the script is written.`, false));
   return found;
@@ -149,10 +188,12 @@ function findingsOfShapers(text, script, differ) {
 
 const WHOSE = { text: "The text", font: "The font", shapers: "The shapers", script: "The script" };
 
-// Shows the sentences.
-function showAnswer(text, shown, shaped, bytes, differ) {
-  const script = shown?.script ?? null;
-  const found = text === "" ? [] : [...findingsOfText(text, shown), ...findingsOfFont(text, script, bytes, shaped), ...findingsOfShapers(text, script, differ)];
+// What is found in a text and its font.
+const findingsOf = (text, shown, shaped, bytes) => [...findingsOfText(text, shown), ...findingsOfFont(text, shown?.script ?? null, bytes, shaped)];
+
+// Shows the sentences: what was found in a text and its font, and what differs between shapers.
+function showAnswer(text, findings, script, differ) {
+  const found = text === "" ? [] : [...findings, ...findingsOfShapers(text, script, differ)];
   found.sort((a, b) => Number(b.isFault) - Number(a.isFault));
   const sentences = found.map(({ whose, text, isFault }) => made("li", { class: isFault ? "fault" : "fine", "data-whose": whose }, made("b", {}, WHOSE[whose] + ": "), text));
   if (text !== "" && !found.some(({ isFault }) => isFault))

@@ -15,7 +15,7 @@ const OPTIONS = ["sound", "always", "gposmark", "beginning"];
 const FIRST_WORD = "\u1781\u17d2\u1798\u17c2\u179a";
 
 let hooks = null;
-let [shown, shaped] = [null, null];
+let [shown, shaped, findings] = [null, null, []];
 
 // ---- What is asked ----
 
@@ -24,10 +24,11 @@ function flagsBy(number) {
   return FLAGS.filter((id) => by(id).checked).reduce((sum, id) => sum + number(id), 0).toString(16);
 }
 
-function textRequest(text) {
+// What is asked of a text, at the level of clusters that is chosen or at another one.
+function textRequest(text, level = by("level").value) {
   const flags = flagsBy((id) => parseInt(id.slice(1), 16));
   const options = OPTIONS.filter((id) => by(id).checked).join(" ");
-  const fields = FIELDS.map((id) => by(id).value);
+  const fields = FIELDS.map((id) => (id === "level" ? level : by(id).value));
   return ["text", ...fields, flags, options, text].join("\n");
 }
 
@@ -59,12 +60,20 @@ function run() {
   document.dispatchEvent(new Event("shown"));
 }
 
+// The steps of the text at another level of clusters. The shown ones are asked for again, as the module tells of the glyphs of
+// the steps that it had last.
+function stepsAt(level, text) {
+  const steps = hooks.ask(textRequest(text, level));
+  hooks.ask(textRequest(text));
+  return steps;
+}
+
 // ---- The text in a font ----
 
 // The steps of a text in the font; null where the module ended (it is started anew then).
-function shapedText(text) {
+function shapedText(text, level) {
   try {
-    return hooks.ask(textRequest(text).replace("text", "shaped"));
+    return hooks.ask(textRequest(text, level).replace("text", "shaped"));
   } catch {
     return null;
   }
@@ -77,12 +86,13 @@ function showShaped() {
   by("in-font").hidden = !shaped;
   by("shaped").replaceChildren(...(shaped?.steps ?? []).map(shapedElement));
   by("shaped-legend").innerHTML = shaped?.legend ?? "";
+  findings = text !== "" && !isOfLines() ? findingsOf(text, shown, shaped, hooks.font) : [];
   answer(null);
 }
 
 // Shows the word and whose a difference is: with so many glyphs that HarfRust draws otherwise, or null as long as none is known.
 function answer(differ) {
-  showAnswer(isOfLines() ? "" : by("text").value, shown, shaped, hooks.font, differ);
+  showAnswer(isOfLines() ? "" : by("text").value, findings, shown?.script ?? null, differ);
 }
 
 function shapedElement(step) {

@@ -73,7 +73,8 @@ class Tests:
         return self.page.run("[...document.querySelectorAll('.step .told')].map((told) => told.textContent)")
 
     def choose_font(self, path):
-        self.page.run("by('font-note').textContent = ''")
+        # (a file that is chosen again is no change to the browser)
+        self.page.run("by('font').value = by('font-note').textContent = ''")
         self.page.set_files("#font", [str(path)])
         self.page.wait("by('font-note').textContent !== ''")
 
@@ -338,7 +339,7 @@ class Tests:
             (noto("Bengali"), "\t\u0995\u09c7", "text", "control character"),
             (noto("Bengali"), "\t\u0995\u09c7", "shapers", "middle of a word"),
             (noto("Bengali"), "\u0995\u093f", "font", "no glyph for \u25cc\u093f (U+093F)"),
-            (noto("Devanagari"), "\u093e\u0915", "text", "broken syllable"),
+            (noto("Devanagari"), "\u093e\u0915", "text", "begins with a mark that has no letter"),
             (noto("Devanagari"), "\u0915\u093f", "script", "(U+093F) is drawn before"),
             (noto("Devanagari"), "\u0915\u093f", "font", "substitutes glyphs by the features abvs, "),
             (noto("Thai"), "\u0e14\u0e34\u0e48\u0e33", "shapers", "loses another"),
@@ -363,6 +364,44 @@ class Tests:
             else:
                 assert any(of == whose and words in told for of, told in faults), (font.name, text, words, found)
         return f"{len(cases)} texts"
+
+    def cases(self, cases):
+        """Of each font, text and party: the answer has these words, or no sentence of a fault where they are None."""
+        chosen = None
+        for font, text, whose, words in cases:
+            if font != chosen:
+                self.choose_font(font)
+                chosen = font
+            self.type(text)
+            found = self.findings()
+            told = [sentence for of, _, sentence in found if of == whose]
+            if words is None:
+                assert not [kind for of, kind, _ in found if of == whose and kind == "fault"], (font.name, text, found)
+            else:
+                assert any(words in sentence for sentence in told), (font.name, text, words, found)
+        return f"{len(cases)} texts"
+
+    def noto(self, name):
+        return self.fonts / f"NotoSans{name}-Regular.ttf"
+
+    def test_which_character_breaks_a_syllable(self):
+        """It is the one before which HarfBuzz puts the circle: where a syllable of a script's grammar ends, or a vowel looks
+        like another (the tables \"Vowel letters\" of the Unicode Standard's chapter 12), and never the letter before it."""
+        breaks = "It has a broken syllable: \u25cc%s (U+%04X), the %s character, can't follow what stands before it, so a dotted circle is drawn for it."
+        first = "It begins with a mark that has no letter: \u25cc%s (U+%04X), so a dotted circle is drawn for it."
+        of = lambda mark, nth: breaks % (mark, ord(mark), nth)  # noqa: E731
+        told = self.cases([
+            (self.noto("Khmer"), "\u1793\u17b9\u17c9", "text", of("\u17c9", "3rd")),
+            (self.noto("Khmer"), "\u17c2\u1781\u17d2\u1798\u179a", "text", first % ("\u17c2", 0x17C2)),
+            (self.noto("Devanagari"), "\u0905\u093e", "text", of("\u093e", "2nd")),
+            (self.noto("Devanagari"), "\u0915\u0902\u093f", "text", of("\u093f", "3rd")),
+            (self.noto("Devanagari"), "\u25cc\u093f", "text", None),
+            (self.noto("Bengali"), "\u09a6\u09cd\u09ac\u0982\u09bf", "text", of("\u09bf", "5th")),
+        ])
+        # (a glyph's fields are still those of the steps that are shown)
+        self.page.run("by('steps').lastChild.querySelector('.row g').dispatchEvent(new MouseEvent('click', { bubbles: true }))")
+        assert "09A6" in self.page.run("document.querySelector('.glyph').textContent")
+        return told
 
     def test_headings_are_words(self):
         """No step's heading is a line of the program, whichever script a word is of."""
