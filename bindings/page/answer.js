@@ -19,6 +19,9 @@ const SHAPER_FAULTS = [
   ["Orya", /\u0b4d/u, "It takes rules with context into account when it looks for the base, so that another letter becomes the base."],
 ];
 
+// The tags at which a font is looked for where it has none of the script's.
+const DEFAULTS = ["DFLT", "dflt", "latn"];
+
 // How many characters are looked for in the font one by one.
 const MOST_ALONE = 100;
 
@@ -100,21 +103,38 @@ function movedCharacters(text, steps) {
   return [...new Set(forward.map(([, number]) => String.fromCodePoint(parseInt(number, 16))))].filter((c) => text.includes(c));
 }
 
-function findingsOfText(text, shown) {
+// Of these characters those that are drawn in the font before what they follow in the text.
+function movedInFont(text, moved) {
+  if (moved.length === 0) return [];
+  const characters = [...text];
+  const rows = (shapedText(text, UNMERGED)?.steps ?? []).map((step) => glyphsOf(step).map(({ cluster }) => cluster));
+  const early = new Set();
+  for (const row of rows) row.reduceRight((least, place) => {
+    if (place > least) early.add(characters[place]);
+    return Math.min(least, place);
+  }, Infinity);
+  return moved.filter((c) => early.has(c));
+}
+
+function findingsOfText(text, shown, bytes) {
+  const isOwn = withoutShaper(shown?.script ?? null, shown, bytes) === null;
   const found = [];
   if (/\p{Cc}/u.test(text)) found.push(finding("text", "It has a control character, such as a TAB or the end of a line. A box in the picture is the font's glyph for a character that it lacks. Try each line or column alone."));
   const mark = misplacedMark(text, shown?.steps ?? []);
   if (mark) found.push(finding("text", `Its marks stand in an unusual order: ${named(mark[0])} stands where ${named(mark[1])} is usual. The word is drawn in the usual order.`));
-  found.push(...brokenSentences(text, shown).map((sentence) => finding("text", sentence)));
-  const moved = movedCharacters(text, shown?.steps ?? []);
+  found.push(...brokenSentences(text, isOwn ? shown : null).map((sentence) => finding("text", sentence)));
+  const moved = movedInFont(text, isOwn ? movedCharacters(text, shown?.steps ?? []) : []);
   if (moved.length) found.push(finding("script", `${moved.map(named).join(", ")} is drawn before the letters that it follows in the text; that is how the script is written.`, false));
   return found;
 }
 
 // ---- The font ----
 
-// The features of a script in a table of lookups: null where the font has no such table, or nothing for the script.
-function featuresOf(bytes, table, script) {
+const tagsOf = (script) => TAGS[script] ?? [script.toLowerCase()];
+
+// The tag by which a script's lookups are found in a table, and their features: those of the usual language, and those of any.
+// It is null where the font has no such table, or nothing for the script.
+function lookupsOf(bytes, table, script) {
   const view = new DataView(bytes.buffer, bytes.byteOffset, bytes.byteLength);
   const tag = (at) => String.fromCharCode(...bytes.subarray(at, at + 4));
   const records = (at, size) => Array.from({ length: view.getUint16(at) }, (_, i) => at + 2 + size * i);
@@ -123,23 +143,41 @@ function featuresOf(bytes, table, script) {
   const at = tables.filter((record) => tag(record) === table).map((record) => view.getUint32(record + 8))[0];
   if (at === undefined) return null;
   const scripts = at + view.getUint16(at + 4);
-  const wanted = [...(TAGS[script] ?? [script.toLowerCase()]), "DFLT"];
+  const wanted = [...tagsOf(script), ...DEFAULTS];
   const found = wanted.map((name) => records(scripts, 6).find((record) => tag(record) === name)).find((record) => record !== undefined);
   if (found === undefined) return null;
   const entry = scripts + view.getUint16(found + 4);
-  const languages = [view.getUint16(entry), ...records(entry + 2, 6).map((record) => view.getUint16(record + 4))];
   const list = at + view.getUint16(at + 6);
-  const numbers = languages.filter((offset) => offset !== 0).flatMap((offset) => records(entry + offset + 4, 2).map((place) => view.getUint16(place)));
-  return new Set(numbers.map((number) => tag(list + 2 + 6 * number)));
+  const featuresIn = (languages) => {
+    const numbers = languages.filter((offset) => offset !== 0).flatMap((offset) => records(entry + offset + 4, 2).map((place) => view.getUint16(place)));
+    return new Set(numbers.map((number) => tag(list + 2 + 6 * number)));
+  };
+  const usual = view.getUint16(entry);
+  const others = records(entry + 2, 6).map((record) => view.getUint16(record + 4));
+  return { tag: tag(found), usual: featuresIn([usual]), any: featuresIn([usual, ...others]) };
 }
 
 // The same, of a font whose table can't be read too: null.
-function safeFeaturesOf(bytes, table, script) {
+function safeLookupsOf(bytes, table, script) {
   try {
-    return featuresOf(bytes, table, script);
+    return lookupsOf(bytes, table, script);
   } catch {
     return null;
   }
+}
+
+// What a script's shaper does, where it takes no text in a font that has lookups for other scripts or for the default one
+// alone (HarfBuzz's hb_ot_shaper_categorize); null where the shaper takes the text in any font.
+function boundTo(script, shown) {
+  if (script === "Syrc" || ["Adlm", "Mand", "Mong", "Nkoo"].includes(script)) return "letters don't join";
+  const isBound = shown?.steps.some(({ heads }) => /setup_syllables_(indic|use|myanmar)/.test(heads[0]));
+  return isBound ? "vowels aren't moved and the script's forms aren't made" : null;
+}
+
+// What the script's own shaper would do, where it doesn't take the text in this font; or else null.
+function withoutShaper(script, shown, bytes) {
+  const tag = script && safeLookupsOf(bytes, "GSUB", script)?.tag;
+  return tag === "DFLT" || tag === "latn" || tag === "mymr" ? boundTo(script, shown) : null;
 }
 
 // The characters without a glyph: each is shaped alone, since marks share the place of their letter.
@@ -149,27 +187,33 @@ function lackingCharacters(text, shaped) {
   return lacks(shaped) ? characters.filter((c) => lacks(shapedText(c))) : [];
 }
 
-// By which features a script's glyphs are substituted and moved; nothing where there are none.
+// Which features a font has for a script; nothing where it has none.
 function featuresInWords(gsub, gpos) {
-  const parts = [["substitutes glyphs", gsub], ["moves glyphs", gpos]].filter(([, features]) => features?.size);
-  return parts.map(([does, features]) => `${does} by the features ${[...features].map((tag) => tag.trim()).sort().join(", ")}`).join(", and ");
+  const parts = [["to substitute glyphs", gsub], ["to move glyphs", gpos]].filter(([, lookups]) => lookups?.any.size);
+  return parts.map(([what, { any }]) => `${what}, ${[...any].map((tag) => tag.trim()).sort().join(", ")}`).join("; and ");
 }
 
-function findingsOfFont(text, script, bytes, shaped) {
+function findingsOfFont(text, shown, bytes, shaped) {
   const found = [];
+  const script = shown?.script ?? null;
   const lacking = lackingCharacters(text, shaped);
   if (lacking.length) found.push(finding("font", `It has no glyph for ${lacking.slice(0, 8).map(named).join(", ")}${lacking.length > 8 ? " and others" : ""}.`));
   if (!script || lacking.length === new Set(text).size) return found;
-  const name = scriptName(script);
-  const [gsub, gpos] = ["GSUB", "GPOS"].map((table) => safeFeaturesOf(bytes, table, script));
+  const [name, tags] = [scriptName(script), tagsOf(script).filter((tag) => tag !== "mymr")];
+  const undone = withoutShaper(script, shown, bytes);
+  if (undone) {
+    found.push(finding("font", `It has lookups, but not for ${plainName(script)} (${tags.length > 1 ? "tags" : "tag"} ${tags.map((tag) => tag.trim()).join(", ")}). So ${undone}.`));
+    return found;
+  }
+  const [gsub, gpos] = ["GSUB", "GPOS"].map((table) => safeLookupsOf(bytes, table, script));
   const isSimple = script === "Hebr" || script === "Hang" || script === "Thai" || script === "Laoo";
   if (!gsub && !isSimple) found.push(finding("font", `It has no substitutions for ${name}, so letters don't take the forms that the script needs.`));
-  const forms = Object.keys(JOINING_FEATURES).filter((feature) => gsub && !gsub.has(feature));
+  const forms = Object.keys(JOINING_FEATURES).filter((feature) => gsub && !gsub.usual.has(feature));
   if (JOINING.includes(script) && forms.length) found.push(finding("font", `It lacks the lookups for ${forms.map((form) => JOINING_FEATURES[form]).join(", ")} forms (${forms.join(", ")}).`));
-  const placesMarks = ["mark", "abvm", "blwm"].some((feature) => gpos?.has(feature));
+  const placesMarks = ["mark", "abvm", "blwm"].some((feature) => gpos?.usual.has(feature));
   if (/\p{Mn}/u.test(text) && !placesMarks) found.push(finding("font", "It doesn't place marks for this script (GPOS lacks mark, abvm and blwm), so they may stand beside their letters."));
-  const used = featuresInWords(gsub, gpos);
-  if (used) found.push(finding("font", `For ${name} it ${used}. If a form is missing in the picture, the font may lack its feature.`, false));
+  const features = featuresInWords(gsub, gpos);
+  if (features) found.push(finding("font", `For ${name} it has these features: ${features}. Not all of them are on in every text or language. If a form is missing in the picture, the font may lack its feature.`, false));
   return found;
 }
 
@@ -189,7 +233,7 @@ function findingsOfShapers(text, script, differ) {
 const WHOSE = { text: "The text", font: "The font", shapers: "The shapers", script: "The script" };
 
 // What is found in a text and its font.
-const findingsOf = (text, shown, shaped, bytes) => [...findingsOfText(text, shown), ...findingsOfFont(text, shown?.script ?? null, bytes, shaped)];
+const findingsOf = (text, shown, shaped, bytes) => [...findingsOfText(text, shown, bytes), ...findingsOfFont(text, shown, bytes, shaped)];
 
 // Shows the sentences: what was found in a text and its font, and what differs between shapers.
 function showAnswer(text, findings, script, differ) {

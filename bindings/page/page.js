@@ -175,8 +175,11 @@ function note(text) {
   return parts.join(" ");
 }
 
+// A script's name: Unicode's where the browser has another one.
+const plainName = (code) => (code === "Beng" ? "Bengali" : new Intl.DisplayNames("en", { type: "script" }).of(code));
+
 function scriptName(code) {
-  const name = new Intl.DisplayNames("en", { type: "script" }).of(code);
+  const name = plainName(code);
   return name === code ? code : `${name} (${code})`;
 }
 

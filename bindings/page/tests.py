@@ -341,7 +341,7 @@ class Tests:
             (noto("Bengali"), "\u0995\u093f", "font", "no glyph for \u25cc\u093f (U+093F)"),
             (noto("Devanagari"), "\u093e\u0915", "text", "begins with a mark that has no letter"),
             (noto("Devanagari"), "\u0915\u093f", "script", "(U+093F) is drawn before"),
-            (noto("Devanagari"), "\u0915\u093f", "font", "substitutes glyphs by the features abvs, "),
+            (noto("Devanagari"), "\u0915\u093f", "font", "it has these features: to substitute glyphs, abvs, "),
             (noto("Thai"), "\u0e14\u0e34\u0e48\u0e33", "shapers", "loses another"),
             (noto("Devanagari"), "\u0915\u094d\u093c", "text", "unusual order"),
             (noto("Hebrew"), "\u05d9\u05bc\u05b7", None, None),
@@ -402,6 +402,44 @@ class Tests:
         self.page.run("by('steps').lastChild.querySelector('.row g').dispatchEvent(new MouseEvent('click', { bubbles: true }))")
         assert "09A6" in self.page.run("document.querySelector('.glyph').textContent")
         return told
+
+    def spoilt(self, name, *changes):
+        """A font of Debian's in which bytes are others: tags of scripts, or a character in the table of characters."""
+        data = self.noto(name).read_bytes()
+        for table, old, new in changes:
+            count = int.from_bytes(data[4:6], "big")
+            record = next(at for at in range(12, 12 + 16 * count, 16) if data[at : at + 4] == table)
+            start, length = (int.from_bytes(data[record + at : record + at + 4], "big") for at in (8, 12))
+            assert old in data[start : start + length], (name, table, old)
+            data = data[:start] + data[start : start + length].replace(old, new) + data[start + length :]
+        path = self.scratch / f"{name}{len(list(self.scratch.iterdir()))}.ttf"
+        path.write_bytes(data)
+        return path
+
+    def test_what_the_fonts_own_run_shows(self):
+        """HarfBuzz inserts no circle where the font has no U+25CC, and has the default shaper take a script whose tags the
+        font lacks, but for Khmer, Thai and others, whose shapers take any font. (hb_ot_shaper_categorize)"""
+        no_circle = self.spoilt("Khmer", (b"cmap", b"\x25\xcc", b"\x25\xcd"))
+        tags = lambda *pairs: [(table, old, new) for table in (b"GSUB", b"GPOS") for old, new in pairs]  # noqa: E731
+        bengali = self.spoilt("Bengali", *tags((b"beng", b"DFLT"), (b"bng2", b"zzzz")))
+        khmer = self.spoilt("Khmer", *tags((b"khmr", b"DFLT")))
+        lacks = "It has lookups, but not for Bengali (tags bng3, bng2, beng). So vowels aren't moved and the script's forms aren't made."
+        return self.cases([
+            (no_circle, "\u1793\u17b9\u17c9", "text", "can't follow what stands before it; a dotted circle belongs there, which this font doesn't have."),
+            (no_circle, "\u1781\u17c2", "script", "(U+17C2) is drawn before"),
+            (bengali, "\u0995\u09c7", "font", lacks),
+            (bengali, "\u0995\u0982\u09c7", "text", None),
+            (khmer, "\u1781\u17c2", "font", None),
+            (khmer, "\u1781\u17c2", "script", "(U+17C2) is drawn before"),
+        ]) + self.without(bengali, "\u0995\u09c7", "script")
+
+    def without(self, font, text, whose):
+        """Of this party, there is no sentence at all."""
+        self.choose_font(font)
+        self.type(text)
+        found = self.findings()
+        assert not [of for of, *_ in found if of == whose], (font.name, text, found)
+        return f", and one without {whose}"
 
     def test_headings_are_words(self):
         """No step's heading is a line of the program, whichever script a word is of."""
