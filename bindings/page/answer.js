@@ -28,7 +28,11 @@ const MOST_ALONE = 100;
 // What was found: whose it is, and what; and whether it is why the word may look wrong.
 const finding = (whose, text, isFault = true) => ({ whose, text, isFault });
 
-const named = (c) => `${/\p{M}/u.test(c) ? "\u25cc" + c : c} (U+${c.codePointAt(0).toString(16).toUpperCase().padStart(4, "0")})`;
+const codeOf = (c) => `U+${c.codePointAt(0).toString(16).toUpperCase().padStart(4, "0")}`;
+const shownIn = (c) => (/\p{M}/u.test(c) ? "\u25cc" + c : c);
+const isInvisible = (c) => /\p{Default_Ignorable_Code_Point}/u.test(c);
+const isDrawn = (c) => c !== undefined && !isInvisible(c) && !/[\p{Cc}\p{Cs}\p{Z}]/u.test(c);
+const named = (c) => (isDrawn(c) ? `${shownIn(c)} (${codeOf(c)})` : codeOf(c));
 
 // The glyphs that a step prints: their numbers and the places of their characters.
 function glyphsOf(step) {
@@ -79,7 +83,7 @@ function brokenSentences(text, shown) {
   const characters = [...text];
   const broken = brokenPlaces(text, shown);
   const drawn = broken.length ? drawnPlaces(text) : [];
-  const isMark = /^\p{M}/u.test(text);
+  const isMark = /^\p{M}/u.test(text) && isDrawn(characters[0]);
   const circleOf = (place) => {
     if (drawn === null && broken.includes(place)) return "; a dotted circle belongs there, which this font doesn't have.";
     return drawn?.includes(place) ? ", so a dotted circle is drawn for it." : ".";
@@ -122,10 +126,65 @@ function findingsOfText(text, shown, bytes) {
   if (/\p{Cc}/u.test(text)) found.push(finding("text", "It has a control character, such as a TAB or the end of a line. A box in the picture is the font's glyph for a character that it lacks. Try each line or column alone."));
   const mark = misplacedMark(text, shown?.steps ?? []);
   if (mark) found.push(finding("text", `Its marks stand in an unusual order: ${named(mark[0])} stands where ${named(mark[1])} is usual. The word is drawn in the usual order.`));
+  found.push(...pairSentences(text, mark).map((sentence) => finding("text", sentence)));
+  found.push(...invisibleSentences(text).map((sentence) => finding("text", sentence, false)));
   found.push(...brokenSentences(text, isOwn ? shown : null).map((sentence) => finding("text", sentence)));
   const moved = movedInFont(text, isOwn ? movedCharacters(text, shown?.steps ?? []) : []);
   if (moved.length) found.push(finding("script", `${moved.map(named).join(", ")} is drawn before the letters that it follows in the text; that is how the script is written.`, false));
   return found;
+}
+
+// Characters that aren't drawn: their names in Unicode, and what they do.
+const INVISIBLE = {
+  "\u00ad": ["SOFT HYPHEN", "is drawn only where a line ends"], "\u034f": ["COMBINING GRAPHEME JOINER", "keeps marks in the order in which they are typed"],
+  "\u061c": ["ARABIC LETTER MARK", "sets the direction beside it"], "\u200b": ["ZERO WIDTH SPACE", "lets a line end"],
+  "\u180e": ["MONGOLIAN VOWEL SEPARATOR", "sets the last vowel apart"],
+  "\u200c": ["ZERO WIDTH NON-JOINER", "keeps letters apart"], "\u200d": ["ZERO WIDTH JOINER", "asks for the forms of joined letters"],
+  "\u200e": ["LEFT-TO-RIGHT MARK", "sets the direction beside it"], "\u200f": ["RIGHT-TO-LEFT MARK", "sets the direction beside it"],
+  "\u2060": ["WORD JOINER", "keeps a line from ending"], "\ufeff": ["ZERO WIDTH NO-BREAK SPACE", "keeps a line from ending"],
+};
+// How many places of an invisible character are told.
+const MOST_PLACES = 4;
+
+// Each invisible character, and behind which characters it stands.
+function invisibleSentences(text) {
+  const characters = [...text];
+  return [...new Set(characters.filter(isInvisible))].map((c) => {
+    const [name, effect] = INVISIBLE[c] ?? ["character that isn't drawn", null];
+    const all = characters.flatMap((other, i) => (other === c ? [i] : []));
+    const places = all.slice(0, MOST_PLACES).map((i) => {
+      if (i === 0) return "at the start";
+      return `after ${isDrawn(characters[i - 1]) ? shownIn(characters[i - 1]) : `the ${ordinal(i)} character`}`;
+    });
+    if (all.length > MOST_PLACES) places.push("elsewhere");
+    const article = /^[AEIOU]/.test(name) ? "an" : "a";
+    return `It has ${article} ${name} (${codeOf(c)}) ${listed([...new Set(places)])}${effect ? `, which ${effect}` : ""}.`;
+  });
+}
+
+// Items as one writes them in a sentence.
+const listed = (items) => (items.length < 2 ? items.join("") : `${items.slice(0, -1).join(", ")} and ${items.at(-1)}`);
+
+// Pairs of characters that a script has in another order, or as one character: of the pair what is told. (The Unicode
+// Standard, chapters 12 and 16; Unicode's order of marks leaves these pairs as they are.)
+const PAIRS = [
+  [/[\u0e48-\u0e4b](?=[\u0e31\u0e34-\u0e39\u0e4d])|[\u0ec8-\u0ecb](?=[\u0eb1\u0eb4-\u0eb9\u0ebb\u0ecd])/u,
+    (first, second) => `${first} stands before ${second}: a tone is typed after the sign above or below the letter.`],
+  [/\u0e40(?=\u0e40)/u, (first) => `${first} stands twice: SARA AE (\u0e41, U+0E41) looks the same, but is one character.`],
+  [/\u0ec0(?=\u0ec0)/u, (first) => `${first} stands twice: the vowel sign EI (\u0ec1, U+0EC1) looks the same, but is one character.`],
+  [/[\u093a\u093b\u093e-\u094c\u094e\u094f\u0955-\u0957\u0962\u0963](?=\u093c)|[\u09be-\u09cc\u09d7](?=\u09bc)|[\u0a3e-\u0a4c](?=\u0a3c)|[\u0abe-\u0acc](?=\u0abc)|[\u0b3e-\u0b4c\u0b56\u0b57](?=\u0b3c)|[\u0c3e-\u0c4c\u0c55\u0c56](?=\u0c3c)|[\u0cbe-\u0ccc\u0cd5\u0cd6](?=\u0cbc)/u,
+    (first, second) => `${second} stands after ${first}: a nukta is typed right after its letter, before the vowel sign.`],
+];
+
+// What such pairs are in a text, but for one that is told of already.
+function pairSentences(text, mark) {
+  return PAIRS.flatMap(([pair, tell]) => {
+    const found = pair.exec(text);
+    if (!found) return [];
+    const [place, first] = [[...text.slice(0, found.index)].length + 1, found[0]];
+    const second = [...text][place];
+    return mark?.[0] === first && mark[1] === second ? [] : [`At the ${ordinal(place)} character, ${tell(named(first), named(second))}`];
+  });
 }
 
 // ---- The font ----
@@ -241,7 +300,7 @@ function showAnswer(text, findings, script, differ) {
   found.sort((a, b) => Number(b.isFault) - Number(a.isFault));
   const sentences = found.map(({ whose, text, isFault }) => made("li", { class: isFault ? "fault" : "fine", "data-whose": whose }, made("b", {}, WHOSE[whose] + ": "), text));
   if (text !== "" && !found.some(({ isFault }) => isFault))
-    sentences.unshift(made("li", { class: "fine" }, "This page found no fault in the text or the font. It can't tell what the font's lookups should do: if the word still looks wrong, look below for the first step in which it does."));
+    sentences.unshift(made("li", { class: "fine" }, "This page found none of the faults that it knows. Not every unusual order of characters is among them, and the page can't tell what the font's lookups should do: if the word still looks wrong, look below for the first step in which it does."));
   by("findings").replaceChildren(...sentences);
 }
 

@@ -403,6 +403,28 @@ class Tests:
         assert "09A6" in self.page.run("document.querySelector('.glyph').textContent")
         return told
 
+    def test_what_is_unusual_in_a_text(self):
+        """The Unicode Standard's chapters 12 (a nukta follows its letter), 16 (a tone follows the vowel above or below; SARA AE
+        is one character) and 23 (joiners and other characters that aren't drawn)."""
+        arabic = self.fonts / "NotoNaskhArabic-Regular.ttf"
+        return self.cases([
+            (self.noto("Thai"), "\u0e17\u0e48\u0e35", "text", "At the 2nd character, \u25cc\u0e48 (U+0E48) stands before \u25cc\u0e35 (U+0E35): a tone is typed after"),
+            (self.noto("Thai"), "\u0e17\u0e35\u0e48", "text", None),
+            (self.noto("Thai"), "\u0e01\u0e48\u0e38", "text", "unusual order"),
+            (self.noto("Thai"), "\u0e40\u0e40\u0e21\u0e48", "text", "At the 1st character, \u0e40 (U+0E40) stands twice: SARA AE (\u0e41, U+0E41)"),
+            (self.noto("Thai"), "\u0e41\u0e21\u0e48", "text", None),
+            (self.noto("Thai"), "\u0e48\u0e21", "text", "It begins with a mark that has no letter: \u25cc\u0e48 (U+0E48)."),
+            (self.noto("Lao"), "\u0e97\u0ec8\u0eb5", "text", "\u25cc\u0ec8 (U+0EC8) stands before \u25cc\u0eb5 (U+0EB5)"),
+            (self.noto("Lao"), "\u0ec0\u0ec0\u0ea1", "text", "the vowel sign EI"),
+            (self.noto("Devanagari"), "\u091c\u0940\u093c", "text", "At the 2nd character, \u25cc\u093c (U+093C) stands after \u25cc\u0940 (U+0940): a nukta is typed right after its letter"),
+            (self.noto("Devanagari"), "\u091c\u093c\u0940", "text", None),
+            (self.noto("Devanagari"), "\u0915\u094d\u200d\u0937", "text", "It has a ZERO WIDTH JOINER (U+200D) after \u25cc\u094d, which asks"),
+            (arabic, "\u0639\u200c\u0631\u0628", "text", "It has a ZERO WIDTH NON-JOINER (U+200C) after \u0639, which keeps letters apart."),
+            (arabic, "\u0639\u200c\u0631\u0628", "", "This page found none of the faults that it knows."),
+            (arabic, "\u061c\u0639", "text", "It has an ARABIC LETTER MARK (U+061C) at the start, which"),
+            (arabic, "\u0639\ufe00", "text", "It has a character that isn't drawn (U+FE00) after \u0639."),
+        ])
+
     def spoilt(self, name, *changes):
         """A font of Debian's in which bytes are others: tags of scripts, or a character in the table of characters."""
         data = self.noto(name).read_bytes()
