@@ -281,10 +281,10 @@ function findingsOfFont(text, shown, bytes, shaped) {
 // What HarfRust draws otherwise in the font, by the number of glyphs that differ; null where it isn't known yet.
 function findingsOfShapers(text, script, differ) {
   if (differ === null) return [];
-  if (differ === 0) return [finding("shapers", "HarfRust 0.12.0 and Sengadlit, the shaper of this page, draw the word alike, so a fault of a shaper is unlikely.", false)];
+  if (differ === 0) return [finding("shapers", "HarfRust 0.12.0 and its copy with this project's fixes draw the word alike. Both descend from HarfBuzz, so a fault that all share wouldn't show.", false)];
   const known = SHAPER_FAULTS.find(([of, characters]) => of === script && characters.test(text));
   const count = differ === 1 ? "one glyph" : `${differ} glyphs`;
-  return [finding("shapers", `HarfRust 0.12.0 draws ${count} differently from Sengadlit, the shaper of this page, with the same text and font; both are drawn below. ${known ? known[2] : "This page doesn't know the reason."}`)];
+  return [finding("shapers", `HarfRust 0.12.0 draws ${count} differently from its copy with this project's fixes, with the same text and font; both are drawn below. ${known ? known[2] : "This page doesn't know the reason."}`)];
 }
 
 // ---- The answer ----

@@ -119,6 +119,12 @@ function told(name, glyphs) {
   return made("p", {}, made("b", {}, name), " ", made("code", {}, glyphs.map((glyph) => glyph.number).join(" ")));
 }
 
+// The same text as the browser draws it in the font, in the direction that is chosen.
+function showBrowsers(text) {
+  by("browsers-word").textContent = text;
+  by("browsers-word").dir = by("direction").value || "auto";
+}
+
 // Both lines, each alone and one over the other.
 function showWithFont() {
   for (const id of ["word", "outlines"]) by(id).replaceChildren();
@@ -132,11 +138,12 @@ function showWithFont() {
     const lines = [{ glyphs: stock, others: sengadlit, colour: "stock" }, { glyphs: sengadlit, others: stock, colour: "sengadlit" }];
     const differ = Math.max(withoutTwin(stock, sengadlit).size, withoutTwin(sengadlit, stock).size);
     by("outlines").append(
-      told("HarfRust: glyphs", stock), drawn(lines.slice(0, 1), width), told("HarfRust with Sengadlit's hooks: glyphs", sengadlit), drawn(lines.slice(1), width),
+      told("HarfRust 0.12.0: glyphs", stock), drawn(lines.slice(0, 1), width), told("Its copy with this project's fixes: glyphs", sengadlit), drawn(lines.slice(1), width),
       made("p", { id: "differ" }, differ ? `Glyphs that differ: ${differ}. One line over the other:` : "Both have the same glyphs at the same places."));
     if (differ) by("outlines").append(drawn(lines, width));
     by("word").append(drawn([{ glyphs: sengadlit, others: sengadlit, colour: "sengadlit" }], widthOf(sengadlit)));
     showWidth(text, widthOf(sengadlit));
+    showBrowsers(text);
     if (text === by("text").value) answer(differ);
   } catch (error) {
     by("outlines").append(`The program ended: ${error.message}`);

@@ -104,15 +104,17 @@ function shapedElement(step) {
   return element;
 }
 
-// Lends a font to the browser, which draws characters by it that the font of the page's sentences lacks. A file that the
-// browser refuses isn't lent.
+// Lends a font to the browser, which then draws by it the text box, characters in sentences and a word to compare with. Where
+// the browser refuses a file, it isn't lent, and there is no word.
 async function lendFont(bytes) {
   try {
     const face = await new FontFace("chosen", bytes).load();
     document.fonts.clear();
     document.fonts.add(face);
+    by("browsers").hidden = false;
   } catch {
     document.fonts.clear();
+    by("browsers").hidden = true;
   }
 }
 

@@ -343,6 +343,8 @@ class Tests:
             (noto("Devanagari"), "\u0915\u093f", "script", "(U+093F) is drawn before"),
             (noto("Devanagari"), "\u0915\u093f", "font", "it has these features: to substitute glyphs, abvs, "),
             (noto("Thai"), "\u0e14\u0e34\u0e48\u0e33", "shapers", "loses another"),
+            (noto("Thai"), "\u0e14\u0e34\u0e48\u0e33", "shapers", "differently from its copy with this project's fixes"),
+            (noto("Thai"), "\u0e14\u0e34", "shapers", "its copy with this project's fixes draw the word alike. Both descend from HarfBuzz"),
             (noto("Devanagari"), "\u0915\u094d\u093c", "text", "unusual order"),
             (noto("Hebrew"), "\u05d9\u05bc\u05b7", None, None),
             (noto("Khmer"), "\u0633\u0644\u0627\u0645", "font", "no glyph for \u0633 (U+0633)"),
@@ -402,6 +404,20 @@ class Tests:
         self.page.run("by('steps').lastChild.querySelector('.row g').dispatchEvent(new MouseEvent('click', { bubbles: true }))")
         assert "09A6" in self.page.run("document.querySelector('.glyph').textContent")
         return told
+
+    def test_the_browser_draws_the_word_too(self):
+        """In the chosen font: its width is the sum of the advances in the font, which is 60 pixels high, and none is drawn
+        where the browser refuses the file."""
+        width = "(() => { const range = document.createRange(); range.selectNodeContents(by('browsers-word')); return range.getBoundingClientRect().width; })()"
+        for font, text in (("Devanagari", "\u0939\u093f\u0928\u094d\u0926\u0940"), ("Thai", "\u0e17\u0e35\u0e48")):
+            self.choose_font(self.noto(font))
+            self.type(text)
+            assert self.page.run("by('browsers-word').textContent") == text
+            advances = self.page.run(f"widthOf(ask('shape', 'sengadlit', {js(text)})) / metrics.units * 60")
+            self.page.wait(f"Math.abs({width} - {advances}) < 1 && !by('browsers').hidden", 20)
+        assert self.page.run("by('browsers').querySelector('figcaption').textContent").startswith("The same word as this browser draws it")
+        self.choose_font(self.spoilt("Thai", (b"head", b"\x5f\x0f\x3c\xf5", b"\0\0\0\0")))
+        self.page.wait("by('browsers').hidden", 20)
 
     def test_what_is_unusual_in_a_text(self):
         """The Unicode Standard's chapters 12 (a nukta follows its letter), 16 (a tone follows the vowel above or below; SARA AE
