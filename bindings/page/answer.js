@@ -29,7 +29,8 @@ const MOST_ALONE = 100;
 const finding = (whose, text, isFault = true) => ({ whose, text, isFault });
 
 const codeOf = (c) => `U+${c.codePointAt(0).toString(16).toUpperCase().padStart(4, "0")}`;
-const shownIn = (c) => (/\p{M}/u.test(c) ? "\u25cc" + c : c);
+// A character in a sentence, between the signs that sentenceParts reads.
+const shownIn = (c) => `\u2068${/\p{M}/u.test(c) ? "\u25cc" + c : c}\u2069`;
 const isInvisible = (c) => /\p{Default_Ignorable_Code_Point}/u.test(c);
 const isDrawn = (c) => c !== undefined && !isInvisible(c) && !/[\p{Cc}\p{Cs}\p{Z}]/u.test(c);
 const named = (c) => (isDrawn(c) ? `${shownIn(c)} (${codeOf(c)})` : codeOf(c));
@@ -170,8 +171,8 @@ const listed = (items) => (items.length < 2 ? items.join("") : `${items.slice(0,
 const PAIRS = [
   [/[\u0e48-\u0e4b](?=[\u0e31\u0e34-\u0e39\u0e4d])|[\u0ec8-\u0ecb](?=[\u0eb1\u0eb4-\u0eb9\u0ebb\u0ecd])/u,
     (first, second) => `${first} stands before ${second}: a tone is typed after the sign above or below the letter.`],
-  [/\u0e40(?=\u0e40)/u, (first) => `${first} stands twice: SARA AE (\u0e41, U+0E41) looks the same, but is one character.`],
-  [/\u0ec0(?=\u0ec0)/u, (first) => `${first} stands twice: the vowel sign EI (\u0ec1, U+0EC1) looks the same, but is one character.`],
+  [/\u0e40(?=\u0e40)/u, (first) => `${first} stands twice: SARA AE (${shownIn("\u0e41")}, U+0E41) looks the same, but is one character.`],
+  [/\u0ec0(?=\u0ec0)/u, (first) => `${first} stands twice: the vowel sign EI (${shownIn("\u0ec1")}, U+0EC1) looks the same, but is one character.`],
   [/[\u093a\u093b\u093e-\u094c\u094e\u094f\u0955-\u0957\u0962\u0963](?=\u093c)|[\u09be-\u09cc\u09d7](?=\u09bc)|[\u0a3e-\u0a4c](?=\u0a3c)|[\u0abe-\u0acc](?=\u0abc)|[\u0b3e-\u0b4c\u0b56\u0b57](?=\u0b3c)|[\u0c3e-\u0c4c\u0c55\u0c56](?=\u0c3c)|[\u0cbe-\u0ccc\u0cd5\u0cd6](?=\u0cbc)/u,
     (first, second) => `${second} stands after ${first}: a nukta is typed right after its letter, before the vowel sign.`],
 ];
@@ -294,11 +295,14 @@ const WHOSE = { text: "The text", font: "The font", shapers: "The shapers", scri
 // What is found in a text and its font.
 const findingsOf = (text, shown, shaped, bytes) => [...findingsOfText(text, shown, bytes), ...findingsOfFont(text, shown, bytes, shaped)];
 
+// A sentence, whose characters are drawn in the chosen font where it has them.
+const sentenceParts = (text) => text.split(/\u2068([^\u2069]*)\u2069/u).map((part, i) => (i % 2 ? made("bdi", { class: "character", lang: "" }, part) : part));
+
 // Shows the sentences: what was found in a text and its font, and what differs between shapers.
 function showAnswer(text, findings, script, differ) {
   const found = text === "" ? [] : [...findings, ...findingsOfShapers(text, script, differ)];
   found.sort((a, b) => Number(b.isFault) - Number(a.isFault));
-  const sentences = found.map(({ whose, text, isFault }) => made("li", { class: isFault ? "fault" : "fine", "data-whose": whose }, made("b", {}, WHOSE[whose] + ": "), text));
+  const sentences = found.map(({ whose, text, isFault }) => made("li", { class: isFault ? "fault" : "fine", "data-whose": whose }, made("b", {}, WHOSE[whose] + ": "), ...sentenceParts(text)));
   if (text !== "" && !found.some(({ isFault }) => isFault))
     sentences.unshift(made("li", { class: "fine" }, "This page found none of the faults that it knows. Not every unusual order of characters is among them, and the page can't tell what the font's lookups should do: if the word still looks wrong, look below for the first step in which it does."));
   by("findings").replaceChildren(...sentences);

@@ -419,6 +419,17 @@ class Tests:
         self.choose_font(self.spoilt("Thai", (b"head", b"\x5f\x0f\x3c\xf5", b"\0\0\0\0")))
         self.page.wait("by('browsers').hidden", 20)
 
+    def test_characters_are_drawn_in_the_chosen_font(self):
+        """In a sentence and in the text box; the words of a sentence are the system's."""
+        self.choose_font(self.noto("Thai"))
+        self.type("\u0e17\u0e48\u0e35")
+        fonts = "[...by('findings').querySelectorAll('.character')].map((it) => [it.textContent, getComputedStyle(it).fontFamily])"
+        assert self.page.run(fonts) == [[mark, "chosen, system-ui"] for mark in ("\u25cc\u0e48", "\u25cc\u0e35")], self.page.run(fonts)
+        assert self.page.run("getComputedStyle(by('text')).fontFamily") == "chosen, system-ui"
+        assert self.page.run("getComputedStyle(by('findings')).fontFamily").startswith("system-ui")
+        note = "The box is drawn by your system\u2019s fonts where the chosen font lacks a character; the picture below by the chosen font."
+        assert self.page.run("by('text').getAttribute('aria-describedby') === 'box-note' && by('box-note').textContent") == note
+
     def test_what_is_unusual_in_a_text(self):
         """The Unicode Standard's chapters 12 (a nukta follows its letter), 16 (a tone follows the vowel above or below; SARA AE
         is one character) and 23 (joiners and other characters that aren't drawn)."""
