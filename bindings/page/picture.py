@@ -16,7 +16,7 @@ WIDTH = 760
 CHOOSE = """
 const between = [...by('form').children].slice(1);
 const steps = [...by('steps').children].filter((step) => step.dataset.head !== 'run pause reorder_khmer');
-for (const element of [...between, ...steps, by('legend'), by('with-font'), by('in-font')]) element.style.display = 'none';
+for (const element of [...between, ...steps, by('legend'), by('with-font'), by('in-font'), by('broken'), by('by-lines')]) element.style.display = 'none';
 """
 
 

@@ -141,11 +141,11 @@ class Tests:
             seen.append(self.page.run("document.activeElement.id || document.activeElement.getAttribute('role') || document.activeElement.tagName"))
             if seen[-1] == "text":
                 self.page.type("\u0d9a\u0dd9")
-            if seen[-1] == "SUMMARY" and self.page.run("document.activeElement.parentNode.id") == "choices":
+            if seen[-1] == "SUMMARY" and self.page.run("document.activeElement.parentNode.id") in ("choices", "programmers"):
                 self.page.key("Enter")
             if seen[-1] == "button" and self.page.run("document.activeElement.closest('.step') === by('steps').lastChild"):
                 break
-        ids = self.page.run("[...by('form').querySelectorAll('[id]:not(details, #lines)')].map((it) => it.id)")
+        ids = self.page.run("[...by('form').querySelectorAll('input, select, textarea')].map((it) => it.id)")
         assert {*ids, "font"} <= set(seen), {*ids, "font"} - set(seen)
         self.page.key("Enter")
         assert "0DD9" in self.page.run("document.querySelector('.glyph').textContent")
@@ -429,6 +429,23 @@ class Tests:
         assert self.page.run("getComputedStyle(by('findings')).fontFamily").startswith("system-ui")
         note = "The box is drawn by your system\u2019s fonts where the chosen font lacks a character; the picture below by the chosen font."
         assert self.page.run("by('text').getAttribute('aria-describedby') === 'box-note' && by('box-note').textContent") == note
+
+    def test_what_programmers_need_is_folded(self):
+        """A typographer sees four choices; the others, and where a line may break, are folded, and each has its label. Where
+        the address has lines of the program, they are open."""
+        self.page.open(self.url + "?folded#text=%E0%BD%96")
+        inside = "[...by('%s').querySelectorAll('input, select')].map((it) => it.id)"
+        assert self.page.run(inside % "choices") == ["script", "direction", "f20", "beginning"]
+        assert self.page.run(inside % "programmers") == ["level", "sound", "f40", "f80", "always", "gposmark"]
+        assert self.page.run("by('programmers').querySelector('summary').textContent") == "For programmers"
+        assert self.page.run("!by('choices').open && !by('programmers').open && by('programmers').contains(by('breaks'))")
+        assert self.page.run("['f20', 'beginning'].map((id) => by(id).labels[0].textContent.trim())") == ["Draw no dotted circles", "The text begins a paragraph"]
+        labels = "[...document.querySelectorAll('input, select, textarea')].map((it) => it.labels[0]?.textContent.trim() ?? '')"
+        assert all(re.match("[A-Z]", label) for label in self.page.run(labels)), self.page.run(labels)
+        last = "(id) => by('steps').compareDocumentPosition(by(id)) & Node.DOCUMENT_POSITION_FOLLOWING"
+        assert all(self.page.run(f"['width', 'lines'].map({last})"))
+        self.page.open(self.url + "?lines#lines=text%200E01")
+        assert self.page.run("by('by-lines').open")
 
     def test_what_is_unusual_in_a_text(self):
         """The Unicode Standard's chapters 12 (a nukta follows its letter), 16 (a tone follows the vowel above or below; SARA AE
