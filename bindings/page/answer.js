@@ -96,7 +96,7 @@ function brokenSentences(text, shown) {
     const why = place === 0 ? "can't stand alone" : "can't follow what stands before it";
     sentences.push(`It has a broken syllable: ${named(characters[place])}, ${nth}, ${why}${circleOf(place)}`);
   }
-  if (others.length > MOST_BROKEN) sentences.push(`Of broken syllables it has ${others.length} in all.`);
+  if (others.length > MOST_BROKEN) sentences.push(`It has ${others.length} broken syllables in all.`);
   return sentences;
 }
 
@@ -249,8 +249,9 @@ function lackingCharacters(text, shaped) {
 
 // Which features a font has for a script; nothing where it has none.
 function featuresInWords(gsub, gpos) {
-  const parts = [["to substitute glyphs", gsub], ["to move glyphs", gpos]].filter(([, lookups]) => lookups?.any.size);
-  return parts.map(([what, { any }]) => `${what}, ${[...any].map((tag) => tag.trim()).sort().join(", ")}`).join("; and ");
+  const [substitute, move] = [gsub, gpos].map((lookups) => listed([...(lookups?.any ?? [])].map((tag) => tag.trim()).sort()));
+  const parts = [substitute && `${substitute}, which can substitute glyphs`, move && `${move}, which can move glyphs`];
+  return parts.filter((part) => part).join("; and ");
 }
 
 function findingsOfFont(text, shown, bytes, shaped) {
@@ -273,7 +274,7 @@ function findingsOfFont(text, shown, bytes, shaped) {
   const placesMarks = ["mark", "abvm", "blwm"].some((feature) => gpos?.usual.has(feature));
   if (/\p{Mn}/u.test(text) && !placesMarks) found.push(finding("font", "It doesn't place marks for this script (GPOS lacks mark, abvm and blwm), so they may stand beside their letters."));
   const features = featuresInWords(gsub, gpos);
-  if (features) found.push(finding("font", `For ${name} it has these features: ${features}. Not all of them are on in every text or language. If a form is missing in the picture, the font may lack its feature.`, false));
+  if (features) found.push(finding("font", `For ${name} it has the features ${features}. Not all of them are on in every text or language. If a form is missing in the picture, the font may lack its feature.`, false));
   return found;
 }
 

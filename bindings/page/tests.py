@@ -341,7 +341,8 @@ class Tests:
             (noto("Bengali"), "\u0995\u093f", "font", "no glyph for \u25cc\u093f (U+093F)"),
             (noto("Devanagari"), "\u093e\u0915", "text", "begins with a mark that has no letter"),
             (noto("Devanagari"), "\u0915\u093f", "script", "(U+093F) is drawn before"),
-            (noto("Devanagari"), "\u0915\u093f", "font", "it has these features: to substitute glyphs, abvs, "),
+            (noto("Devanagari"), "\u0915\u093f", "font", "it has the features abvs, "),
+            (noto("Thai"), "\u0e14\u0e34", "font", "it has the features aalt, ccmp and liga, which can substitute glyphs; and kern, mark and mkmk, which can move glyphs."),
             (noto("Thai"), "\u0e14\u0e34\u0e48\u0e33", "shapers", "loses another"),
             (noto("Thai"), "\u0e14\u0e34\u0e48\u0e33", "shapers", "differently from its copy with this project's fixes"),
             (noto("Thai"), "\u0e14\u0e34", "shapers", "its copy with this project's fixes draw the word alike. Both descend from HarfBuzz"),
@@ -393,6 +394,7 @@ class Tests:
         first = "It begins with a mark that has no letter: \u25cc%s (U+%04X), so a dotted circle is drawn for it."
         of = lambda mark, nth: breaks % (mark, ord(mark), nth)  # noqa: E731
         told = self.cases([
+            (self.noto("Devanagari"), "\u0915\u0902\u093f" * 4, "text", "It has 4 broken syllables in all."),
             (self.noto("Khmer"), "\u1793\u17b9\u17c9", "text", of("\u17c9", "3rd")),
             (self.noto("Khmer"), "\u17c2\u1781\u17d2\u1798\u179a", "text", first % ("\u17c2", 0x17C2)),
             (self.noto("Devanagari"), "\u0905\u093e", "text", of("\u093e", "2nd")),
