@@ -78,6 +78,7 @@ function drawnPlaces(text) {
 }
 
 const ordinal = (number) => number + (/1[123]$/.test(number) ? "th" : { 1: "st", 2: "nd", 3: "rd" }[number % 10] ?? "th");
+const nthCharacter = (number) => `the ${ordinal(number)} character`;
 
 // What is told of broken syllables, and of a mark at the start, which may be one.
 function brokenSentences(text, shown) {
@@ -92,9 +93,8 @@ function brokenSentences(text, shown) {
   const sentences = isMark ? [`It begins with a mark that has no letter: ${named(characters[0])}${circleOf(0)}`] : [];
   const others = broken.filter((place) => place > 0 || !isMark);
   for (const place of others.slice(0, MOST_BROKEN)) {
-    const nth = `the ${ordinal(place + 1)} character`;
     const why = place === 0 ? "can't stand alone" : "can't follow what stands before it";
-    sentences.push(`It has a broken syllable: ${named(characters[place])}, ${nth}, ${why}${circleOf(place)}`);
+    sentences.push(`It has a broken syllable: ${named(characters[place])}, ${nthCharacter(place + 1)}, ${why}${circleOf(place)}`);
   }
   if (others.length > MOST_BROKEN) sentences.push(`It has ${others.length} broken syllables in all.`);
   return sentences;
@@ -155,7 +155,7 @@ function invisibleSentences(text) {
     const all = characters.flatMap((other, i) => (other === c ? [i] : []));
     const places = all.slice(0, MOST_PLACES).map((i) => {
       if (i === 0) return "at the start";
-      return `after ${isDrawn(characters[i - 1]) ? shownIn(characters[i - 1]) : `the ${ordinal(i)} character`}`;
+      return `after ${isDrawn(characters[i - 1]) ? shownIn(characters[i - 1]) : nthCharacter(i)}`;
     });
     if (all.length > MOST_PLACES) places.push("elsewhere");
     const article = /^[AEIOU]/.test(name) ? "an" : "a";
@@ -166,15 +166,22 @@ function invisibleSentences(text) {
 // Items as one writes them in a sentence.
 const listed = (items) => (items.length < 2 ? items.join("") : `${items.slice(0, -1).join(", ")} and ${items.at(-1)}`);
 
-// Pairs of characters that a script has in another order, or as one character: of the pair what is told. (The Unicode
-// Standard, chapters 12 and 16; Unicode's order of marks leaves these pairs as they are.)
+// A vowel sign before a nukta: the blocks of these scripts, from Devanagari to Kannada, have them at the same places.
+const BLOCKS = [0x900, 0x980, 0xa00, 0xa80, 0xb00, 0xc00, 0xc80];
+const SIGN_AND_NUKTA = new RegExp(BLOCKS.map((block) => {
+  const [first, last, length, lastLength, vocalic, lastVocalic, nukta] = [0x3e, 0x4c, 0x55, 0x57, 0x62, 0x63, 0x3c].map((place) => String.fromCodePoint(block + place));
+  return `[${first}-${last}${length}-${lastLength}${vocalic}-${lastVocalic}](?=${nukta})`;
+}).join("|"), "u");
+
+// Pairs of characters that a script has in another order, or as one character: what is told of the pair, and which characters
+// of the text it has. (The Unicode Standard, chapters 12 and 16.)
 const PAIRS = [
   [/[\u0e48-\u0e4b](?=[\u0e31\u0e34-\u0e39\u0e4d])|[\u0ec8-\u0ecb](?=[\u0eb1\u0eb4-\u0eb9\u0ebb\u0ecd])/u,
-    (first, second) => `${first} stands before ${second}: a tone is typed after the sign above or below the letter.`],
-  [/\u0e40(?=\u0e40)/u, (first) => `${first} stands twice: SARA AE (${shownIn("\u0e41")}, U+0E41) looks the same, but is one character.`],
-  [/\u0ec0(?=\u0ec0)/u, (first) => `${first} stands twice: the vowel sign EI (${shownIn("\u0ec1")}, U+0EC1) looks the same, but is one character.`],
-  [/[\u093a\u093b\u093e-\u094c\u094e\u094f\u0955-\u0957\u0962\u0963](?=\u093c)|[\u09be-\u09cc\u09d7](?=\u09bc)|[\u0a3e-\u0a4c](?=\u0a3c)|[\u0abe-\u0acc](?=\u0abc)|[\u0b3e-\u0b4c\u0b56\u0b57](?=\u0b3c)|[\u0c3e-\u0c4c\u0c55\u0c56](?=\u0c3c)|[\u0cbe-\u0ccc\u0cd5\u0cd6](?=\u0cbc)/u,
-    (first, second) => `${second} stands after ${first}: a nukta is typed right after its letter, before the vowel sign.`],
+    (first, second, nth) => `${first}, ${nth}, stands before ${second}: a tone is typed after the sign above or below the letter.`],
+  [/\u0e40(?=\u0e40)/u, (first, _, nth) => `${first}, ${nth}, stands twice: SARA AE (${shownIn("\u0e41")}, U+0E41) looks the same, but is one character.`],
+  [/\u0ec0(?=\u0ec0)/u, (first, _, nth) => `${first}, ${nth}, stands twice: the vowel sign EI (${shownIn("\u0ec1")}, U+0EC1) looks the same, but is one character.`],
+  [SIGN_AND_NUKTA,
+    (first, second, _, next) => `${second}, ${next}, stands after ${first}: a nukta is typed right after its letter, before the vowel sign.`],
 ];
 
 // What such pairs are in a text, but for one that is told of already.
@@ -184,7 +191,7 @@ function pairSentences(text, mark) {
     if (!found) return [];
     const [place, first] = [[...text.slice(0, found.index)].length + 1, found[0]];
     const second = [...text][place];
-    return mark?.[0] === first && mark[1] === second ? [] : [`At the ${ordinal(place)} character, ${tell(named(first), named(second))}`];
+    return mark?.[0] === first && mark[1] === second ? [] : [tell(named(first), named(second), nthCharacter(place), nthCharacter(place + 1))];
   });
 }
 

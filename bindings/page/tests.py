@@ -454,16 +454,18 @@ class Tests:
         is one character) and 23 (joiners and other characters that aren't drawn)."""
         arabic = self.fonts / "NotoNaskhArabic-Regular.ttf"
         return self.cases([
-            (self.noto("Thai"), "\u0e17\u0e48\u0e35", "text", "At the 2nd character, \u25cc\u0e48 (U+0E48) stands before \u25cc\u0e35 (U+0E35): a tone is typed after"),
+            (self.noto("Thai"), "\u0e17\u0e48\u0e35", "text", "The text: \u25cc\u0e48 (U+0E48), the 2nd character, stands before \u25cc\u0e35 (U+0E35): a tone is typed after"),
             (self.noto("Thai"), "\u0e17\u0e35\u0e48", "text", None),
             (self.noto("Thai"), "\u0e01\u0e48\u0e38", "text", "unusual order"),
-            (self.noto("Thai"), "\u0e40\u0e40\u0e21\u0e48", "text", "At the 1st character, \u0e40 (U+0E40) stands twice: SARA AE (\u0e41, U+0E41)"),
+            (self.noto("Thai"), "\u0e40\u0e40\u0e21\u0e48", "text", "The text: \u0e40 (U+0E40), the 1st character, stands twice: SARA AE (\u0e41, U+0E41)"),
             (self.noto("Thai"), "\u0e41\u0e21\u0e48", "text", None),
             (self.noto("Thai"), "\u0e48\u0e21", "text", "It begins with a mark that has no letter: \u25cc\u0e48 (U+0E48)."),
-            (self.noto("Lao"), "\u0e97\u0ec8\u0eb5", "text", "\u25cc\u0ec8 (U+0EC8) stands before \u25cc\u0eb5 (U+0EB5)"),
+            (self.noto("Lao"), "\u0e97\u0ec8\u0eb5", "text", "\u25cc\u0ec8 (U+0EC8), the 2nd character, stands before \u25cc\u0eb5 (U+0EB5)"),
             (self.noto("Lao"), "\u0ec0\u0ec0\u0ea1", "text", "the vowel sign EI"),
-            (self.noto("Devanagari"), "\u091c\u0940\u093c", "text", "At the 2nd character, \u25cc\u093c (U+093C) stands after \u25cc\u0940 (U+0940): a nukta is typed right after its letter"),
+            (self.noto("Devanagari"), "\u091c\u0940\u093c", "text", "The text: \u25cc\u093c (U+093C), the 3rd character, stands after \u25cc\u0940 (U+0940): a nukta is typed right after its letter"),
             (self.noto("Devanagari"), "\u091c\u093c\u0940", "text", None),
+            (self.noto("Bengali"), "\u09a1\u09be\u09bc", "text", "The text: \u25cc\u09bc (U+09BC), the 3rd character, stands after \u25cc\u09be (U+09BE)"),
+            (self.noto("Bengali"), "\u09a1\u09bc\u09be", "text", None),
             (self.noto("Devanagari"), "\u0915\u094d\u200d\u0937", "text", "It has a ZERO WIDTH JOINER (U+200D) after \u25cc\u094d, which asks"),
             (arabic, "\u0639\u200c\u0631\u0628", "text", "It has a ZERO WIDTH NON-JOINER (U+200C) after \u0639, which keeps letters apart."),
             (arabic, "\u0639\u200c\u0631\u0628", "", "This page found none of the faults that it knows."),
