@@ -429,6 +429,11 @@ class Tests:
         assert self.page.run(fonts) == [[mark, "chosen, system-ui"] for mark in ("\u25cc\u0e48", "\u25cc\u0e35")], self.page.run(fonts)
         assert self.page.run("getComputedStyle(by('text')).fontFamily") == "chosen, system-ui"
         assert self.page.run("getComputedStyle(by('findings')).fontFamily").startswith("system-ui")
+        # (a mark and its dotted circle are one syllable, so that no other circle is drawn between words of another script)
+        self.choose_font(self.noto("Khmer"))
+        self.type("\u1781\u17c2")
+        shown = "(() => { const it = document.querySelector('#findings .character'); return it.getBoundingClientRect().width / parseFloat(getComputedStyle(it).fontSize); })()"
+        self.page.wait(f"Math.abs({shown} - widthOf(ask('shape', 'sengadlit', {js(chr(0x25CC) + chr(0x17C2))})) / metrics.units) < 0.05", 20)
         note = "The box is drawn by your system\u2019s fonts where the chosen font lacks a character; the picture below by the chosen font."
         assert self.page.run("by('text').getAttribute('aria-describedby') === 'box-note' && by('box-note').textContent") == note
 
