@@ -140,7 +140,7 @@ const INVISIBLE = {
   "\u00ad": ["SOFT HYPHEN", "is drawn only where a line ends"], "\u034f": ["COMBINING GRAPHEME JOINER", "keeps marks in the order in which they are typed"],
   "\u061c": ["ARABIC LETTER MARK", "sets the direction beside it"], "\u200b": ["ZERO WIDTH SPACE", "lets a line end"],
   "\u180e": ["MONGOLIAN VOWEL SEPARATOR", "sets the last vowel apart"],
-  "\u200c": ["ZERO WIDTH NON-JOINER", "keeps letters apart"], "\u200d": ["ZERO WIDTH JOINER", "asks for the forms of joined letters"],
+  "\u200c": ["ZERO WIDTH NON-JOINER", "keeps apart letters that would join"], "\u200d": ["ZERO WIDTH JOINER", "asks for the forms of joined letters"],
   "\u200e": ["LEFT-TO-RIGHT MARK", "sets the direction beside it"], "\u200f": ["RIGHT-TO-LEFT MARK", "sets the direction beside it"],
   "\u2060": ["WORD JOINER", "keeps a line from ending"], "\ufeff": ["ZERO WIDTH NO-BREAK SPACE", "keeps a line from ending"],
 };
@@ -182,6 +182,10 @@ const PAIRS = [
   [/\u0ec0(?=\u0ec0)/u, (first, _, nth) => `${first}, ${nth}, stands twice: the vowel sign EI (${shownIn("\u0ec1")}, U+0EC1) looks the same, but is one character.`],
   [SIGN_AND_NUKTA,
     (first, second, _, next) => `${second}, ${next}, stands after ${first}: a nukta is typed right after its letter, before the vowel sign.`],
+  [/[\u093e-\u094c\u0955-\u0957\u0962\u0963](?=\u094d)/u,
+    (first, second, _, next) => `${second}, ${next}, stands after ${first}: a virama is typed right after its letter, before any vowel sign.`],
+  [/[\u17b6-\u17c5](?=\u17d2)/u,
+    (first, second, _, next) => `${second}, ${next}, stands after ${first}: a subscript is typed before the vowel sign.`],
 ];
 
 // What such pairs are in a text, but for one that is told of already.

@@ -455,8 +455,8 @@ class Tests:
         assert self.page.run("by('by-lines').open")
 
     def test_what_is_unusual_in_a_text(self):
-        """The Unicode Standard's chapters 12 (a nukta follows its letter), 16 (a tone follows the vowel above or below; SARA AE
-        is one character) and 23 (joiners and other characters that aren't drawn)."""
+        """The Unicode Standard's chapters 12 (a nukta follows its letter, and so does a virama), 16 (a tone follows the vowel above or
+        below; SARA AE is one character; a subscript precedes the vowel sign) and 23 (joiners and other characters that aren't drawn)."""
         arabic = self.fonts / "NotoNaskhArabic-Regular.ttf"
         return self.cases([
             (self.noto("Thai"), "\u0e17\u0e48\u0e35", "text", "The text: \u25cc\u0e48 (U+0E48), the 2nd character, stands before \u25cc\u0e35 (U+0E35): a tone is typed after"),
@@ -471,8 +471,12 @@ class Tests:
             (self.noto("Devanagari"), "\u091c\u093c\u0940", "text", None),
             (self.noto("Bengali"), "\u09a1\u09be\u09bc", "text", "The text: \u25cc\u09bc (U+09BC), the 3rd character, stands after \u25cc\u09be (U+09BE)"),
             (self.noto("Bengali"), "\u09a1\u09bc\u09be", "text", None),
+            (self.noto("Devanagari"), "\u0939\u0928\u093f\u094d\u0926\u0940", "text", "The text: \u25cc\u094d (U+094D), the 4th character, stands after \u25cc\u093f (U+093F): a virama is typed right after its letter"),
+            (self.noto("Devanagari"), "\u0939\u093f\u0928\u094d\u0926\u0940", "text", None),
+            (self.noto("Khmer"), "\u1781\u17c2\u17d2\u1798", "text", "The text: \u25cc\u17d2 (U+17D2), the 3rd character, stands after \u25cc\u17c2 (U+17C2): a subscript is typed before the vowel sign."),
+            (self.noto("Khmer"), "\u1781\u17d2\u1798\u17c2", "text", None),
             (self.noto("Devanagari"), "\u0915\u094d\u200d\u0937", "text", "It has a ZERO WIDTH JOINER (U+200D) after \u25cc\u094d, which asks"),
-            (arabic, "\u0639\u200c\u0631\u0628", "text", "It has a ZERO WIDTH NON-JOINER (U+200C) after \u0639, which keeps letters apart."),
+            (arabic, "\u0639\u200c\u0631\u0628", "text", "It has a ZERO WIDTH NON-JOINER (U+200C) after \u0639, which keeps apart letters that would join."),
             (arabic, "\u0639\u200c\u0631\u0628", "", "This page found none of the faults that it knows."),
             (arabic, "\u061c\u0639", "text", "It has an ARABIC LETTER MARK (U+061C) at the start, which"),
             (arabic, "\u0639\ufe00", "text", "It has a character that isn't drawn (U+FE00) after \u0639."),
