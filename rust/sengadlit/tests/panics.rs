@@ -364,10 +364,11 @@ mod text {
 
     #[test]
     fn normalization_leaves_no_half_made_buffer() {
-        // letters that come apart; letters alone, which stay; letters with marks that stay; letters
-        // in the forms of their variation selectors
+        // letters that come apart; letters alone, which stay, more than are numbered as a word;
+        // letters with marks that stay; letters in the forms of their variation selectors
         let apart = latin_text(&[0x1EBF, 0x323, 0x65, 0x301, 0x323, 0x34F, 0xEA, 0xE9]);
-        let alone = latin_text(&[0x61, 0x62, 0x63, 0x64, 0x65, 0x66, 0x67, 0x68]);
+        let letters = [0x61, 0x62, 0x63, 0x64, 0x65, 0x66, 0x67, 0x68];
+        let alone = latin_text(&letters.repeat(5));
         let staying = latin_text(&[0x61, 0x323, 0x62, 0x323, 0x63, 0x323, 0x64, 0x323]);
         let selected = latin_text(&[0x61, 0xFE00].repeat(6));
         // (a shaper that leaves letters whole, and one that doesn't)
@@ -377,6 +378,13 @@ mod text {
                 assert!(kinds.iter().all(|count| *count > 5), "{kinds:?}");
             }
         }
+        // of a word that stays, each question is answered before the first glyph changes
+        let word = latin_text(&letters);
+        let mode = NormalizationMode::AUTO;
+        let kinds = left_by(&word, |answers, buffer| {
+            is_normalized(mode, answers, buffer)
+        });
+        assert!(kinds[0] > 5 && kinds[1] == 0, "{kinds:?}");
     }
 
     mod preparing {

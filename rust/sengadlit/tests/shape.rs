@@ -390,7 +390,7 @@ fn a_buffer_is_used_again_after_a_panic() {
             assert_eq!(again, whole);
             panics += 1;
         }
-        assert!(panics > 20, "{panics}");
+        assert!(panics > 15, "{panics}");
     }
 }
 
