@@ -692,9 +692,10 @@ typedef struct sengadlit_buffer_properties_t {
     sengadlit_buffer_cluster_level_t cluster_level;
     uint32_t flags;                  /* SENGADLIT_BUFFER_FLAG_.. */
     uint32_t max_length;             /* A hook that would make the text longer returns TOO_LONG, and so does a stretched mark
-                                        that doesn't fit; a lookup that would is left out. 0 if no length is set: sengadlit_shape then bounds a
-                                        text as HarfBuzz 12, by 256 times its length, or 65536 if that is more; a hook that is
-                                        called by itself bounds it by 1073741823, which stands for no length, too. */
+                                        that doesn't fit; a lookup that would is left out. 0 if no length is set:
+                                        sengadlit_shape then bounds a text as HarfBuzz 12, by 256 times its length, or 65536
+                                        if that is more; a hook that is called by itself bounds it by 1073741823, which stands
+                                        for no length, too. */
 } sengadlit_buffer_properties_t;
 
 typedef struct sengadlit_buffer_t sengadlit_buffer_t;
@@ -752,8 +753,8 @@ sengadlit_status_t sengadlit_buffer_set_content_type(sengadlit_buffer_t *buffer,
    content type, and for null. */
 sengadlit_bool_t sengadlit_buffer_is_complete(sengadlit_buffer_t *buffer);
 /* Whether it is, and no lookup of the font lacked operations, of which a text has 4096 for each character and 65536 at least, or
-   room for glyphs that it adds. Only a hostile font, or a max_length, makes it 0 for a complete text. What sengadlit_reshape_utf8 and its siblings
-   leave as it was counts as it did. */
+   room for glyphs that it adds. Only a hostile font, or a max_length, makes it 0 for a complete text. What sengadlit_reshape_utf8
+   and its siblings leave as it was counts as it did. */
 sengadlit_bool_t sengadlit_buffer_has_all_lookups(sengadlit_buffer_t *buffer);
 
 /* Adds the glyphs of another buffer from place `start` to before `end`, with their positions, as hb_buffer_append: script and
@@ -1273,9 +1274,9 @@ void sengadlit_user_feature_to_string(const sengadlit_user_feature_t *feature, c
    and direction of the buffer become those by which the text was shaped; its cluster_level, flags and max_length count.
    `options` may be null. A plan that is used for more than one text is worth a cache.
    ATOMIC: unless DONE or INTERNAL is returned, the buffer has the text that it had. ARGUMENT: FACE; TEXT, RANGE, of text and
-   length; OPTIONS; DIRECTION, LANGUAGE, FEATURES, FONT, of the options; and for a null buffer. MEMORY. TOO_LONG: a stretched
-   mark makes the text longer than max_length, or, where that is 0, than 256 times its length or 65536 glyphs; or it has more than
-   UINT32_MAX units. STRETCH_OVERFLOW. INTERNAL: only where `font` changes its results. */
+   length; OPTIONS; DIRECTION, LANGUAGE, FEATURES, FONT, of the options; and for a null buffer. MEMORY. TOO_LONG: what isn't a
+   lookup makes the text longer than max_length; or, where that is 0, a stretched mark makes it longer than 256 times its length
+   and 65536 glyphs; or it has more than UINT32_MAX units. STRETCH_OVERFLOW. INTERNAL: only where `font` changes its results. */
 sengadlit_status_t sengadlit_shape_utf8(const sengadlit_face_t *face, const char *text, int text_length,
                                         const sengadlit_shape_options_t *options, sengadlit_buffer_t *buffer);
 sengadlit_status_t sengadlit_shape_utf16(const sengadlit_face_t *face, const uint16_t *text, int text_length,
