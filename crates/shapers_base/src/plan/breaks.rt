@@ -5,6 +5,7 @@ pub enum BreakFlags {
     #[default]
     AsCode,
     /// Those too where a piece of the broken text would be shaped differently: in joining, in the forms
-    /// of the universal shaper, in Hangul, and in Thai's private use forms.
+    /// of the universal shaper, in Hangul, in Thai's private use forms, and in Indic graphemes that
+    /// begin with ZWNJ.
     Sound,
 }
