@@ -5,7 +5,7 @@ use Rattle.ucd_table.proofs.Computing.{tables}
 use Rattle.ucd_table.proofs.Facts.{Stepped-everywhere}
 use Rattle.ucd_table.proofs.Stepped.{Stepped, map_stepped, zip_stepped}
 use Rattle.shapers_buffer.proofs.PropertyLemmas.{number-lt}
-use Rattle.shapers_buffer.specs.Category.{category_number}
+use Rattle.shapers_buffer.specs.Category.{category_number, is_mark}
 use Rattle.shapers_unicode.specs.declared.tables.character.TheConstants.{CHARACTER_KINDS}
 use Rattle.shapers_unicode.specs.CharacterBits.{bits_of, character_bits}
 use Rattle.shapers_unicode.specs.Classes.{modified_class}
@@ -61,37 +61,49 @@ kind-there c =
     (get_or CHARACTER_KINDS (kind_place c) 0 == character_bits c) (all_listed c)).1
 
 -- what the number tells
-low_of : (category class : ℕ) (ignorable : Bool) → category < 30
-    → (category + cond ignorable 32 0 + 256 * class) % 32 ≡ category
-low_of category class true small = omega arith
-low_of category class false small = omega arith
+low_of : (category class : ℕ) (ignorable mark : Bool) → category < 30
+    → (category + cond ignorable 32 0 + cond mark 128 0 + 256 * class) % 32 ≡ category
+low_of category class true true small = omega arith
+low_of category class true false small = omega arith
+low_of category class false true small = omega arith
+low_of category class false false small = omega arith
 
 pub category-told : (c : ℕ) → character_bits c % 32 ≡ category_number (category_of_character c)
 unfolding character_bits
 category-told c =
     low_of (category_number (category_of_character c)) (modified_class c) (default_ignorable c)
-    (number-lt (category_of_character c))
+    (is_mark (category_of_character c)) (number-lt (category_of_character c))
 
-class_of : (category class : ℕ) (ignorable : Bool) → category < 30
-    → (category + cond ignorable 32 0 + 256 * class) / 256 ≡ class
-class_of category class true small = omega arith
-class_of category class false small = omega arith
+class_of : (category class : ℕ) (ignorable mark : Bool) → category < 30
+    → (category + cond ignorable 32 0 + cond mark 128 0 + 256 * class) / 256 ≡ class
+class_of category class true true small = omega arith
+class_of category class true false small = omega arith
+class_of category class false true small = omega arith
+class_of category class false false small = omega arith
 
 pub class-told : (c : ℕ) → character_bits c / 256 ≡ modified_class c
 unfolding character_bits
 class-told c =
     class_of (category_number (category_of_character c)) (modified_class c) (default_ignorable c)
-    (number-lt (category_of_character c))
+    (is_mark (category_of_character c)) (number-lt (category_of_character c))
 
-drawn_by : (category class : ℕ) (ignorable : Bool) → category < 30
-    → ((category + cond ignorable 32 0 + 256 * class) / 32 % 2 == 1) ≡ ignorable
-drawn_by category class true small =
-    let one : (category + 32 + 256 * class) / 32 % 2 ≡ 1 = omega arith in ap (λ n. n == 1) one
-drawn_by category class false small =
-    let none : (category + 0 + 256 * class) / 32 % 2 ≡ 0 = omega arith in ap (λ n. n == 1) none
+pub ignorable_bit : (category class : ℕ) (mark : Bool) → category < 30
+    → (category + 32 + cond mark 128 0 + 256 * class) / 32 % 2 ≡ 1
+ignorable_bit category class true small = omega arith
+ignorable_bit category class false small = omega arith
+
+drawn_bit : (category class : ℕ) (mark : Bool) → category < 30
+    → (category + 0 + cond mark 128 0 + 256 * class) / 32 % 2 ≡ 0
+drawn_bit category class true small = omega arith
+drawn_bit category class false small = omega arith
+
+drawn_by : (category class : ℕ) (ignorable mark : Bool) → category < 30
+    → ((category + cond ignorable 32 0 + cond mark 128 0 + 256 * class) / 32 % 2 == 1) ≡ ignorable
+drawn_by category class true mark small = ap (λ n. n == 1) (ignorable_bit category class mark small)
+drawn_by category class false mark small = ap (λ n. n == 1) (drawn_bit category class mark small)
 
 pub ignorable-told : (c : ℕ) → (character_bits c / 32 % 2 == 1) ≡ default_ignorable c
 unfolding character_bits
 ignorable-told c =
     drawn_by (category_number (category_of_character c)) (modified_class c) (default_ignorable c)
-    (number-lt (category_of_character c))
+    (is_mark (category_of_character c)) (number-lt (category_of_character c))

@@ -1,3 +1,4 @@
+pub mod CharacterFacts
 pub mod CharacterSteps
 pub mod CharacterTable
 pub mod ClassSteps

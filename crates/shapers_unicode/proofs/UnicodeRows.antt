@@ -40,7 +40,7 @@ categories = refl
 -- the number kept of A, a, 0, space, a soft hyphen, acute, Hebrew's sheva, whose class is changed, the grapheme
 -- joiner, the joiner, Hangul's filler, an unassigned code point, Tibetan's TSA -PHRU
 kept : map character_bits (0x41 ∷ 0x61 ∷ 0x30 ∷ 0x20 ∷ 0xAD ∷ 0x301 ∷ 0x5B0 ∷ 0x34F ∷ 0x200D ∷ 0x3164 ∷ 0x378 ∷ 0xF39 ∷ [])
-    ≡ 9 ∷ 5 ∷ 13 ∷ 29 ∷ 33 ∷ 58892 ∷ 5644 ∷ 44 ∷ 33 ∷ 7 ∷ 2 ∷ 32524 ∷ []
+    ≡ 9 ∷ 5 ∷ 13 ∷ 29 ∷ 33 ∷ 59020 ∷ 5772 ∷ 172 ∷ 33 ∷ 7 ∷ 2 ∷ 32652 ∷ []
 unfolding tables character_bits category_of_character general_rows default_ignorable ignorable_ranges drawn_ranges
     modified_class class_rows class_exceptions changed_classes
 kept = refl

@@ -22,7 +22,7 @@ mod vertical;
 
 pub use pairs::{compose, decompose, mirrored};
 pub use properties::{
-    character_kind, general_category, indic_categories, is_default_ignorable,
+    character_bits, character_kind, general_category, indic_categories, is_default_ignorable,
     is_extended_pictographic, joining_type, modified_combining_class, universal_category,
 };
 pub use vertical::vertical_form;

@@ -1,5 +1,6 @@
 //! Properties of characters.
-ghost use Rattle.std.specs.Prelude.{◌≡◌};
+ghost use Rattle.std.specs.Prelude.{◌≡◌, ◌<◌};
+ghost use Rattle.shapers_buffer.specs.Settings.{character_of};
 ghost use Rattle.shapers_unicode.specs.CharacterBits.{character_bits};
 ghost use Rattle.shapers_unicode.specs.Classes.{modified_class};
 ghost use Rattle.shapers_unicode.specs.General.{category_of_character};
@@ -20,18 +21,38 @@ use crate::tables::universal::{UNIVERSAL_BLOCKS, UNIVERSAL_INDEX, UNIVERSAL_TAIL
 use shapers_base::plan::{Category, Position, hb_arabic_joining_type_t};
 use shapers_buffer::buffer::hb_unicode_general_category_t;
 
-// The general category of a character, whether a font need not draw it, and its class, in one number
-// that one look-up tells: callers that want several of them read it once.
-#[inline]
-fn character_bits(c: char) -> u16
+/// What a glyph keeps of a character that is always drawn, in one number that one look-up tells: the
+/// general category, whether a font need not draw the character, whether it is a mark, and its class.
+/// A number that is no character has those of U+FFFD.
+// (in a caller's walk, as a call for each character takes longer than the look-up)
+#[inline(always)]
+pub fn character_bits(c: u32) -> u16
+    ensures { result ≡ character_bits (character_of c) }
+{
+    // (one test for most characters, which are before the surrogates)
+    if c < 0xD800 {
+        bits_at(c)
+    } else {
+        bits_beyond(c)
+    }
+}
+
+// The same of a number beyond them.
+// (a call, so that its test isn't made for all)
+#[inline(never)]
+fn bits_beyond(c: u32) -> u16
+    ensures { result ≡ character_bits (character_of c) }
+{
+    bits_at(char::from_u32(c).unwrap_or(char::REPLACEMENT_CHARACTER) as u32)
+}
+
+// The same of a code point.
+#[inline(always)]
+fn bits_at(c: u32) -> u16
+    requires { c < 0x110000 }
     ensures { result ≡ character_bits c }
 {
-    let kind = value_of(
-        &CHARACTER_INDEX,
-        &CHARACTER_BLOCKS,
-        &CHARACTER_TAIL,
-        c as u32,
-    );
+    let kind = value_of(&CHARACTER_INDEX, &CHARACTER_BLOCKS, &CHARACTER_TAIL, c);
     CHARACTER_KINDS[kind as usize]
 }
 
@@ -40,7 +61,7 @@ fn character_bits(c: char) -> u16
 pub fn general_category(c: char) -> hb_unicode_general_category_t
     ensures { result ≡ category_of_character c }
 {
-    let number = character_bits(c) % 32;
+    let number = bits_at(c as u32) % 32;
     hb_unicode_general_category_t::from_number_or_unassigned(number as u8)
 }
 
@@ -57,7 +78,7 @@ pub fn joining_type(c: char) -> hb_arabic_joining_type_t
 pub fn modified_combining_class(c: char) -> u8
     ensures { result ≡ modified_class c }
 {
-    (character_bits(c) / 256) as u8
+    (bits_at(c as u32) / 256) as u8
 }
 
 /// Whether a font need not draw a character: Unicode's default ignorable characters but Hangul's fillers
@@ -66,7 +87,7 @@ pub fn modified_combining_class(c: char) -> u8
 pub fn is_default_ignorable(c: char) -> bool
     ensures { result ≡ default_ignorable c }
 {
-    character_bits(c) / 32 % 2 == 1
+    bits_at(c as u32) / 32 % 2 == 1
 }
 
 /// The general category of a character, the class by which a mark is ordered, and whether a font need
@@ -76,7 +97,7 @@ pub fn is_default_ignorable(c: char) -> bool
 pub fn character_kind(c: char) -> (hb_unicode_general_category_t, u8, bool)
     ensures { result ≡ (category_of_character c, modified_class c, default_ignorable c) }
 {
-    let bits = character_bits(c);
+    let bits = bits_at(c as u32);
     (
         hb_unicode_general_category_t::from_number_or_unassigned((bits % 32) as u8),
         (bits / 256) as u8,

@@ -8,7 +8,7 @@ use Rattle.shapers_unicode.proofs.properties.character_kind.Goals as goal
 
 pub returns : goal.returns
 returns c =
-    let told = c.character_bits-bits.ensures in
+    let told = c.bits_at-bits.ensures in
     let general = c.from_number_or_unassigned.ensures
     ∙ ap (λ n. slice_index_or categories (n % 32) Cn) told
     ∙ ap (λ n. slice_index_or categories n Cn) (category-told c.args.c)

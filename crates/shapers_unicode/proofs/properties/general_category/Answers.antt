@@ -9,6 +9,6 @@ use Rattle.shapers_unicode.proofs.properties.general_category.Goals as goal
 pub returns : goal.returns
 returns c =
     c.from_number_or_unassigned.ensures
-    ∙ ap (λ n. slice_index_or categories (n % 32) Cn) c.character_bits-number.ensures
+    ∙ ap (λ n. slice_index_or categories (n % 32) Cn) c.bits_at-number.ensures
     ∙ ap (λ n. slice_index_or categories n Cn) (category-told c.args.c)
     ∙ by_number (category_of_character c.args.c)

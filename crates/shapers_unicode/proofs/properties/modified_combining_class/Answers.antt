@@ -3,4 +3,4 @@ use Rattle.shapers_unicode.proofs.CharacterSteps.{class-told}
 use Rattle.shapers_unicode.proofs.properties.modified_combining_class.Goals as goal
 
 pub returns : goal.returns
-returns c = ap (λ n. n / 256) c.character_bits.ensures ∙ class-told c.args.c
+returns c = ap (λ n. n / 256) c.bits_at.ensures ∙ class-told c.args.c

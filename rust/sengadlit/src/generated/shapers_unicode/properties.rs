@@ -21,16 +21,44 @@ use crate::generated::shapers_unicode::tables::universal::{
     UNIVERSAL_BLOCKS, UNIVERSAL_INDEX, UNIVERSAL_TAIL,
 };
 
-// The general category of a character, whether a font need not draw it, and its class, in one number
-// that one look-up tells: callers that want several of them read it once.
-#[inline]
-fn character_bits(c: char) -> u16 {
-    let kind = value_of(
-        &CHARACTER_INDEX,
-        &CHARACTER_BLOCKS,
-        &CHARACTER_TAIL,
-        c as u32,
-    );
+/// What a glyph keeps of a character that is always drawn, in one number that one look-up tells: the
+/// general category, whether a font need not draw the character, whether it is a mark, and its class.
+/// A number that is no character has those of U+FFFD.
+// (in a caller's walk, as a call for each character takes longer than the look-up)
+///
+/// <details><summary>Contract</summary>
+///
+/// # Contract
+///
+/// ```text
+/// ensures { result ≡ character_bits (character_of c) }
+/// ```
+///
+/// - `character_of`: `crates/shapers_buffer/specs/Settings.antt`
+/// - `character_bits`: `crates/shapers_unicode/specs/CharacterBits.antt`
+///
+/// </details>
+#[inline(always)]
+pub fn character_bits(c: u32) -> u16 {
+    // (one test for most characters, which are before the surrogates)
+    if c < 0xD800 {
+        bits_at(c)
+    } else {
+        bits_beyond(c)
+    }
+}
+
+// The same of a number beyond them.
+// (a call, so that its test isn't made for all)
+#[inline(never)]
+fn bits_beyond(c: u32) -> u16 {
+    bits_at(char::from_u32(c).unwrap_or(char::REPLACEMENT_CHARACTER) as u32)
+}
+
+// The same of a code point.
+#[inline(always)]
+fn bits_at(c: u32) -> u16 {
+    let kind = value_of(&CHARACTER_INDEX, &CHARACTER_BLOCKS, &CHARACTER_TAIL, c);
     CHARACTER_KINDS[kind as usize]
 }
 
@@ -49,7 +77,7 @@ fn character_bits(c: char) -> u16 {
 /// </details>
 #[inline]
 pub fn general_category(c: char) -> GeneralCategory {
-    let number = character_bits(c) % 32;
+    let number = bits_at(c as u32) % 32;
     GeneralCategory::from_number_or_unassigned(number as u8)
 }
 
@@ -86,7 +114,7 @@ pub fn joining_type(c: char) -> JoiningType {
 /// </details>
 #[inline]
 pub fn modified_combining_class(c: char) -> u8 {
-    (character_bits(c) / 256) as u8
+    (bits_at(c as u32) / 256) as u8
 }
 
 /// Whether a font need not draw a character: Unicode's default ignorable characters but Hangul's fillers
@@ -105,7 +133,7 @@ pub fn modified_combining_class(c: char) -> u8 {
 /// </details>
 #[inline]
 pub fn is_default_ignorable(c: char) -> bool {
-    character_bits(c) / 32 % 2 == 1
+    bits_at(c as u32) / 32 % 2 == 1
 }
 
 /// The general category of a character, the class by which a mark is ordered, and whether a font need
@@ -127,7 +155,7 @@ pub fn is_default_ignorable(c: char) -> bool {
 /// </details>
 #[inline(always)]
 pub fn character_kind(c: char) -> (GeneralCategory, u8, bool) {
-    let bits = character_bits(c);
+    let bits = bits_at(c as u32);
     (
         GeneralCategory::from_number_or_unassigned((bits % 32) as u8),
         (bits / 256) as u8,
