@@ -9,6 +9,7 @@ mod PartedRows
 mod PropertyRows
 pub mod PropertySteps
 mod RotationRows
+pub mod StoredKinds
 pub mod TurningSteps
 mod Untouched
 pub mod VowelOpenings

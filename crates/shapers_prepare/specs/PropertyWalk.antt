@@ -1,5 +1,5 @@
 -- Words of the code's walk, which keeps what is awaited behind the characters so far.
-use Rattle.std.specs.Prelude.{ℕ, Bool, ◌||◌, List, if◌then◌else◌}
+use Rattle.std.specs.Prelude.{ℕ, Bool, false, ◌||◌, List, None, if◌then◌else◌}
 use Rattle.shapers_buffer.specs.declared.buffer.category.hb_unicode_general_category_t.{hb_unicode_general_category_t}
 use Rattle.shapers_buffer.specs.declared.buffer.unicode_props.UnicodeProps.{UnicodeProps}
 use Rattle.shapers_buffer.specs.Properties.{CONTINUATION, HIDDEN, IGNORABLE, properties, set_property}
@@ -35,3 +35,15 @@ abbrev pub properties_with : hb_unicode_general_category_t → ℕ → Bool → 
 properties_with general class ignorable continues hidden =
     set_property HIDDEN hidden (set_property CONTINUATION continues
     (set_property IGNORABLE ignorable (properties general class)))
+
+-- the properties of all characters, if each has this category and class, and need or need not be
+-- drawn
+abbrev pub of_kind : hb_unicode_general_category_t → ℕ → Bool → CharacterProperties
+of_kind general class ignorable = record {
+  general = λ _. general;
+  class = λ _. class;
+  ignorable = λ _. ignorable;
+  pictographic = λ _. false;
+  mirroring = λ _. None;
+  vertical = λ _. None;
+}

@@ -1,8 +1,9 @@
 //! The properties of each character, as its glyph keeps them.
 ghost use Rattle.std.specs.Prelude.{◌≡◌, ◌&&◌, ◌||◌, false, true, nat_lt, not, if◌then◌else◌};
 ghost use Rattle.shapers_normal.specs.Properties.{is_seen_by_lookups, joiner_class};
+ghost use Rattle.shapers_prepare.specs.declared.ot_shape_prepare.properties.Awaited.TheVariants.{Nothing};
 ghost use Rattle.shapers_prepare.specs.GlyphProperties.{always_continues, is_mark_character, is_regional_indicator, is_zero_width_joiner, stored_class, stored_properties, properties_set, with_properties};
-ghost use Rattle.shapers_prepare.specs.PropertyWalk.{goes_on_behind, properties_with, then_awaited};
+ghost use Rattle.shapers_prepare.specs.PropertyWalk.{goes_on_behind, of_kind, properties_with, then_awaited};
 
 use super::unicode::UnicodeProperties;
 use shapers_base::buffer::{
@@ -62,9 +63,47 @@ fn set_properties_in<U: UnicodeProperties>(unicode: &U, glyphs: &mut [hb_glyph_i
 {
     let mut before = Awaited::Nothing;
     for glyph in glyphs.iter_mut() {
-        set_properties(unicode, before, glyph);
-        before = then_awaited(before, glyph.glyph_id);
+        before = set_next_properties(unicode, before, glyph);
     }
+}
+
+// Sets the properties of one glyph, and returns what is awaited behind it.
+#[inline]
+fn set_next_properties<U: UnicodeProperties>(
+    unicode: &U,
+    before: Awaited,
+    glyph: &mut hb_glyph_info_t,
+) -> Awaited
+    ensures set { let p = U.properties unicode.now in
+        let c = glyph.old.glyph_id in
+        let continues = is_mark_character p c || goes_on_behind p before c in
+        glyph.new ≡ with_properties p continues glyph.old }
+    ensures awaited { result ≡ then_awaited before glyph.old.glyph_id }
+{
+    let c = glyph.glyph_id;
+    match before {
+        // (most characters have smaller numbers than any that goes on, or behind which something is
+        // awaited)
+        Awaited::Nothing if never_goes_on(c) => {
+            glyph.unicode_props = unicode.stored_properties(c);
+            Awaited::Nothing
+        }
+        _ => {
+            set_properties(unicode, before, glyph);
+            then_awaited(before, c)
+        }
+    }
+}
+
+// Whether a character has a smaller number than any that carries on each grapheme, or behind which
+// something is awaited.
+#[inline]
+fn never_goes_on(c: u32) -> bool
+    ensures is { result ≡ nat_lt c 0x200D }
+    ensures alone { result ≡ true → always_continues c ≡ false }
+    ensures last { result ≡ true → then_awaited Nothing c ≡ Nothing }
+{
+    c < ZERO_WIDTH_JOINER
 }
 
 // What is awaited behind a character, where this was awaited before it.
@@ -72,10 +111,6 @@ fn set_properties_in<U: UnicodeProperties>(unicode: &U, glyphs: &mut [hb_glyph_i
 fn then_awaited(before: Awaited, c: u32) -> Awaited
     ensures { result ≡ then_awaited before c }
 {
-    // (most characters have smaller numbers than any behind which something is awaited)
-    if c < ZERO_WIDTH_JOINER {
-        return Awaited::Nothing;
-    }
     if c == ZERO_WIDTH_JOINER {
         return Awaited::Joiner;
     }
@@ -99,7 +134,7 @@ pub(super) fn set_properties<U: UnicodeProperties>(
 {
     let c = glyph.glyph_id;
     glyph.unicode_props = match before {
-        Awaited::Nothing if never_continues(c) => stored_properties(unicode, false, c),
+        Awaited::Nothing if never_continues(c) => unicode.stored_properties(c),
         _ => properties_behind(unicode, before, c),
     };
 }
@@ -121,17 +156,23 @@ fn properties_behind<U: UnicodeProperties>(unicode: &U, before: Awaited, c: u32)
         result ≡ stored_properties p (is_mark_character p c || goes_on_behind p before c) c }
 {
     let goes_on = goes_on_behind(unicode, before, c);
-    stored_properties(unicode, goes_on, c)
+    let (general, class, ignorable) = unicode.character_kind(c);
+    properties_of_kind(general, class, ignorable, goes_on, c)
 }
 
-// What a glyph keeps of a character that carries on the grapheme before it if it is a mark or goes on.
-// (in the walk, with the look-up, as a call for each character takes longer than both)
-#[inline(always)]
-fn stored_properties<U: UnicodeProperties>(unicode: &U, goes_on: bool, c: u32) -> UnicodeProps
-    ensures { let p = U.properties unicode.now in
+// What a glyph keeps of a character of this category and class, which carries on the grapheme before it
+// if it is a mark or goes on.
+#[inline]
+pub(super) fn properties_of_kind(
+    general: hb_unicode_general_category_t,
+    class: u8,
+    ignorable: bool,
+    goes_on: bool,
+    c: u32,
+) -> UnicodeProps
+    ensures { let p = of_kind general class ignorable in
         result ≡ stored_properties p (is_mark_character p c || goes_on) c }
 {
-    let (general, class, ignorable) = unicode.character_kind(c);
     if c < 0x80 || !(general.is_mark() || ignorable) {
         return plain_properties(general, goes_on);
     }

@@ -2,8 +2,10 @@
 ghost use Rattle.std.specs.Prelude.{◌≡◌};
 ghost use Rattle.shapers_buffer.specs.Settings.{character_of};
 ghost use Rattle.shapers_prepare.specs.CharacterProperties.{CharacterProperties};
+ghost use Rattle.shapers_prepare.specs.GlyphProperties.{is_mark_character, stored_properties};
 
-use shapers_base::buffer::hb_unicode_general_category_t;
+use super::properties::properties_of_kind;
+use shapers_base::buffer::{UnicodeProps, hb_unicode_general_category_t};
 use shapers_unicode::UnicodeTables;
 
 /// Properties of characters, by their numbers. Each is a function: the same call has the same
@@ -35,6 +37,18 @@ pub trait UnicodeProperties {
             self.modified_combining_class(c),
             self.is_default_ignorable(c),
         )
+    }
+
+    /// What a glyph keeps of a character that carries on a grapheme only if it is a mark. An impl
+    /// overrides this where one look-up tells it.
+    #[inline]
+    #[tactic(auto, using(crate::proofs::StoredKinds::alone))]
+    fn stored_properties(&self, c: u32) -> UnicodeProps
+        ensures { let p = properties self.now in
+            result ≡ stored_properties p (is_mark_character p c) c }
+    {
+        let (general, class, ignorable) = self.character_kind(c);
+        properties_of_kind(general, class, ignorable, false, c)
     }
 
     /// Whether a character is a pictograph of emoji (`Extended_Pictographic`).
@@ -74,6 +88,18 @@ impl UnicodeProperties for UnicodeTables {
     #[inline(always)]
     fn character_kind(&self, c: u32) -> (hb_unicode_general_category_t, u8, bool) {
         shapers_unicode::character_kind(character(c))
+    }
+
+    // (in the walk, with the look-up, as a call for each character takes longer than both)
+    #[inline(always)]
+    #[tactic(auto, using(crate::proofs::StoredKinds::kept, crate::proofs::StoredKinds::alone))]
+    fn stored_properties(&self, c: u32) -> UnicodeProps {
+        let props = UnicodeProps(shapers_unicode::character_bits(c));
+        if props.is_ignorable() {
+            let (general, class, ignorable) = shapers_unicode::character_kind(character(c));
+            return properties_of_kind(general, class, ignorable, false, c);
+        }
+        props
     }
 
     #[inline]

@@ -60,18 +60,42 @@ pub(super) enum Awaited {
 fn set_properties_in<U: UnicodeProperties>(unicode: &U, glyphs: &mut [GlyphInfo]) {
     let mut before = Awaited::Nothing;
     for glyph in glyphs.iter_mut() {
-        set_properties(unicode, before, glyph);
-        before = then_awaited(before, glyph.glyph_id);
+        before = set_next_properties(unicode, before, glyph);
     }
+}
+
+// Sets the properties of one glyph, and returns what is awaited behind it.
+#[inline]
+fn set_next_properties<U: UnicodeProperties>(
+    unicode: &U,
+    before: Awaited,
+    glyph: &mut GlyphInfo,
+) -> Awaited {
+    let c = glyph.glyph_id;
+    match before {
+        // (most characters have smaller numbers than any that goes on, or behind which something is
+        // awaited)
+        Awaited::Nothing if never_goes_on(c) => {
+            glyph.unicode_props = unicode.stored_properties(c);
+            Awaited::Nothing
+        }
+        _ => {
+            set_properties(unicode, before, glyph);
+            then_awaited(before, c)
+        }
+    }
+}
+
+// Whether a character has a smaller number than any that carries on each grapheme, or behind which
+// something is awaited.
+#[inline]
+fn never_goes_on(c: u32) -> bool {
+    c < ZERO_WIDTH_JOINER
 }
 
 // What is awaited behind a character, where this was awaited before it.
 #[inline]
 fn then_awaited(before: Awaited, c: u32) -> Awaited {
-    // (most characters have smaller numbers than any behind which something is awaited)
-    if c < ZERO_WIDTH_JOINER {
-        return Awaited::Nothing;
-    }
     if c == ZERO_WIDTH_JOINER {
         return Awaited::Joiner;
     }
@@ -90,7 +114,7 @@ pub(super) fn set_properties<U: UnicodeProperties>(
 ) {
     let c = glyph.glyph_id;
     glyph.unicode_props = match before {
-        Awaited::Nothing if never_continues(c) => stored_properties(unicode, false, c),
+        Awaited::Nothing if never_continues(c) => unicode.stored_properties(c),
         _ => properties_behind(unicode, before, c),
     };
 }
@@ -106,14 +130,20 @@ fn never_continues(c: u32) -> bool {
 #[cold]
 fn properties_behind<U: UnicodeProperties>(unicode: &U, before: Awaited, c: u32) -> UnicodeProps {
     let goes_on = goes_on_behind(unicode, before, c);
-    stored_properties(unicode, goes_on, c)
+    let (general, class, ignorable) = unicode.character_kind(c);
+    properties_of_kind(general, class, ignorable, goes_on, c)
 }
 
-// What a glyph keeps of a character that carries on the grapheme before it if it is a mark or goes on.
-// (in the walk, with the look-up, as a call for each character takes longer than both)
-#[inline(always)]
-fn stored_properties<U: UnicodeProperties>(unicode: &U, goes_on: bool, c: u32) -> UnicodeProps {
-    let (general, class, ignorable) = unicode.character_kind(c);
+// What a glyph keeps of a character of this category and class, which carries on the grapheme before it
+// if it is a mark or goes on.
+#[inline]
+pub(super) fn properties_of_kind(
+    general: GeneralCategory,
+    class: u8,
+    ignorable: bool,
+    goes_on: bool,
+    c: u32,
+) -> UnicodeProps {
     if c < 0x80 || !(general.is_mark() || ignorable) {
         return plain_properties(general, goes_on);
     }

@@ -2,7 +2,8 @@
 
 //! What preparing a text reads of Unicode.
 
-use crate::generated::shapers_base::buffer::GeneralCategory;
+use super::properties::properties_of_kind;
+use crate::generated::shapers_base::buffer::{GeneralCategory, UnicodeProps};
 use crate::generated::shapers_unicode::UnicodeTables;
 
 /// Properties of characters, by their numbers. Each is a function: the same call has the same
@@ -68,6 +69,27 @@ pub trait UnicodeProperties {
         )
     }
 
+    /// What a glyph keeps of a character that carries on a grapheme only if it is a mark. An impl
+    /// overrides this where one look-up tells it.
+    ///
+    /// <details><summary>Contract</summary>
+    ///
+    /// # Contract
+    ///
+    /// ```text
+    /// ensures { let p = properties self.now in
+    ///     result ≡ stored_properties p (is_mark_character p c) c }
+    /// ```
+    ///
+    /// - `is_mark_character`, `stored_properties`: `crates/shapers_prepare/specs/GlyphProperties.antt`
+    ///
+    /// </details>
+    #[inline]
+    fn stored_properties(&self, c: u32) -> UnicodeProps {
+        let (general, class, ignorable) = self.character_kind(c);
+        properties_of_kind(general, class, ignorable, false, c)
+    }
+
     /// Whether a character is a pictograph of emoji (`Extended_Pictographic`).
     ///
     /// <details><summary>Contract</summary>
@@ -128,6 +150,18 @@ impl UnicodeProperties for UnicodeTables {
     #[inline(always)]
     fn character_kind(&self, c: u32) -> (GeneralCategory, u8, bool) {
         crate::generated::shapers_unicode::character_kind(character(c))
+    }
+
+    // (in the walk, with the look-up, as a call for each character takes longer than both)
+    #[inline(always)]
+    fn stored_properties(&self, c: u32) -> UnicodeProps {
+        let props = UnicodeProps(crate::generated::shapers_unicode::character_bits(c));
+        if props.is_ignorable() {
+            let (general, class, ignorable) =
+                crate::generated::shapers_unicode::character_kind(character(c));
+            return properties_of_kind(general, class, ignorable, false, c);
+        }
+        props
     }
 
     #[inline]
