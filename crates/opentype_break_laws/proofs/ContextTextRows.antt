@@ -1,9 +1,7 @@
 -- A font of one context at small texts: the law of contexts speaks of it, and where its premises don't hold the pieces of
 -- a text aren't left side by side.
-use Rattle.std.proofs.Common.{ℕ, ◌+◌, ◌<◌, ◌≡◌, ◌⊎◌, inl, inr, true, false, Bool, List, [], ◌∷◌, ◌++◌, ◌==◌, length, length-append, map, drop, is_some, Option, None, Some, refl, sym, ap, ◌∙◌, subst, arith, if◌then◌else◌}
+use Rattle.std.proofs.Common.{ℕ, ◌<◌, ◌≡◌, ◌⊎◌, inl, inr, true, [], ◌∷◌, ◌++◌, List, length, length-append, drop, refl, sym, ap, ◌∙◌, subst, arith}
 use Rattle.std.specs.List.{AllByRecursion}
-use Rattle.std.specs.Prelude.{IfSome}
-use Rattle.std.proofs.lemmas.List.{length-map}
 use Rattle.shapers_buffer.specs.Buffer.{Buffer, new_buffer}
 use Rattle.shapers_buffer.specs.Glyph.{default_glyph}
 use Rattle.shapers_buffer.specs.Glyphs.{Glyph, Glyphs}
@@ -11,11 +9,9 @@ use Rattle.shapers_buffer.specs.declared.buffer.level.BufferClusterLevel.TheVari
 use Rattle.shapers_buffer.specs.declared.buffer.lig_props.LigProps.{LigProps}
 use Rattle.shapers_break_laws.specs.Pieces.{BreaksWhereCleared, CutWhereClear}
 use Rattle.opentype_face.specs.Firsts.{first_from}
-use Rattle.opentype_face.specs.Glyphs.{coverage_in}
-use Rattle.opentype_face.specs.Lookups.{lookup_in, subtable_in, type_in}
 use Rattle.opentype_face.specs.Ranges.{bisect}
 use Rattle.opentype_layout.specs.Ligatures.{input_in}
-use Rattle.opentype_layout.specs.Looking.{RuleList, context_rules, is_short, one_in}
+use Rattle.opentype_layout.specs.Looking.{is_short}
 use Rattle.opentype_layout.specs.Pattern.{places_from, seen_by}
 use Rattle.opentype_layout.specs.Rules.{around, chained_in, context_in, end_in, first_at, found_at, kind_in, reach_before, reach_behind, reach_from, rule_in, test_in}
 use Rattle.opentype_layout.specs.Sight.{flag_in, ignores, may_pass, next_from, seen_as, sight_of_context, sight_of_input}
@@ -29,38 +25,14 @@ use Rattle.opentype_gsub.specs.Machine.{climbing, frame_shifted, lookup_called, 
 use Rattle.opentype_gsub.specs.Setting.{is_seen, sights_of}
 use Rattle.opentype_gsub.specs.Substituted.{applied, substituted}
 use Rattle.opentype_font.specs.Lookups.{substituted_by, use_for}
-use Rattle.shapers_plan.specs.declared.ot_map.lookups.StageLookup.{StageLookup}
-use Rattle.shapers_editing.specs.PipelineBreaks.{AreAsIn, IsPiece, LookupLeaves, Numbering, SameButNumbers, ligatures, unlinked}
-use Rattle.shapers_editing.proofs.PiecesAlike.{as_long}
-use Rattle.opentype_break_laws.specs.Contexts.{ApplyOneForOne, HasFeature, HasOperations, PutsInContext, TakesContexts, lookup_named}
-use Rattle.opentype_break_laws.specs.OneForOne.{PutOneForOne}
+use Rattle.shapers_editing.specs.PipelineBreaks.{AreAsIn, IsPiece, LookupLeaves, Numbering, SameButNumbers, ligatures}
+use Rattle.opentype_break_laws.specs.Contexts.{HasFeature, HasOperations, TakesContexts}
+use Rattle.opentype_break_laws.specs.OneContext.{one_context}
 use Rattle.opentype_break_laws.specs.OrderedTexts.{HasNoComponents}
+use Rattle.opentype_break_laws.specs.TwoSingles.{first_lookup}
 use Rattle.opentype_break_laws.proofs.ContextPieces.{short_texts}
 use Rattle.opentype_break_laws.proofs.LigatureFontRows.{as_first, first_number}
-
--- a lookup of type 6: a 2 before a 3 is given to lookup 1
-abbrev contexts : List ℕ
-contexts = (0 ∷ 6 ∷ 0 ∷ 0 ∷ 0 ∷ 1 ∷ 0 ∷ 8 ∷ [])
-    ++ ((0 ∷ 3 ∷ 0 ∷ 0 ∷ 0 ∷ 1 ∷ 0 ∷ 18 ∷ 0 ∷ 1 ∷ 0 ∷ 24 ∷ 0 ∷ 1 ∷ 0 ∷ 0 ∷ 0 ∷ 1 ∷ [])
-    ++ (0 ∷ 1 ∷ 0 ∷ 1 ∷ 0 ∷ 2 ∷ 0 ∷ 1 ∷ 0 ∷ 1 ∷ 0 ∷ 3 ∷ []))
-
--- a lookup of type 1: a 2 becomes a 5
-abbrev singles : List ℕ
-singles = (0 ∷ 1 ∷ 0 ∷ 0 ∷ 0 ∷ 1 ∷ 0 ∷ 8 ∷ []) ++ (0 ∷ 1 ∷ 0 ∷ 6 ∷ 0 ∷ 3 ∷ 0 ∷ 1 ∷ 0 ∷ 1 ∷ 0 ∷ 2 ∷ [])
-
--- GSUB with both
-abbrev putting : List ℕ
-putting = (0 ∷ 1 ∷ 0 ∷ 0 ∷ 0 ∷ 0 ∷ 0 ∷ 0 ∷ 0 ∷ 10 ∷ 0 ∷ 2 ∷ 0 ∷ 6 ∷ 0 ∷ 44 ∷ []) ++ (contexts ++ singles)
-
-abbrev lookup : StageLookup
-lookup = record {
-  index = 0;
-  mask = 256;
-  auto_zwnj = true;
-  auto_zwj = true;
-  random = false;
-  per_syllable = false;
-}
+use Rattle.opentype_break_laws.proofs.OneContext.{beside_long, puts_in_context}
 
 -- a glyph by its number, cluster and mask
 abbrev glyph : ℕ → ℕ → ℕ → Glyph
@@ -74,58 +46,19 @@ abbrev text_of : Glyphs → Buffer
 text_of gs = record (new_buffer 9) { glyphs = gs; level = MonotoneCharacters }
 
 abbrev made : Glyphs → Glyphs
-made gs = (substituted_by [] putting lookup (text_of gs)).glyphs
+made gs = (substituted_by [] one_context first_lookup (text_of gs)).glyphs
 
 -- ---- THE LAW speaks of this font, with two operations for a rule, and of a text of 2 and 3
 
-some_if : (P : RuleList → Type 0) (b : Bool) (rules : RuleList) → P rules
-    → IfSome (let o : Option RuleList = (if b then Some rules else None) in o) P
-some_if P true rules is = is
-some_if P false rules is = tt
-
--- the rule applies lookup 1
-applies : ApplyOneForOne false putting 2 (rule_in (kind_in true (drop 24 putting)) (drop 24 putting)).records
-    (rule_in (kind_in true (drop 24 putting)) (drop 24 putting)).count
-unfolding rule_in chained_in kind_in
-applies = record {
-  lookups = λ k lt. (let one : k < 1 = lt in
-      let z : 0 ≡ k = omega (arith, one) in
-      subst (λ j. PutOneForOne false (lookup_named putting (drop 38 putting) j)) z (omega arith, λ i less. refl));
-  operations = omega arith;
-}
-
-each : (number : ℕ) → IfSome (context_rules true (drop 24 putting) number)
-    (λ rules. (j : ℕ) → j < rules.count → ApplyOneForOne false putting 2 (rules.rule j).records (rules.rule j).count)
-unfolding context_rules first_at kind_in
-each number = some_if (λ rules. (j : ℕ) → j < rules.count → ApplyOneForOne false putting 2 (rules.rule j).records
-    (rules.rule j).count)
-    (is_some (coverage_in (drop 42 putting) number)) (one_in (kind_in true (drop 24 putting)) (drop 24 putting)) (λ j
-    lt. applies)
-
-puts : PutsInContext 2 putting (use_for lookup)
-puts = record {
-  table = record {
-    some = omega arith;
-    types = λ i less. refl;
-    rules = λ i number less. (let z : 0 ≡ i = omega (arith, less) in
-        subst (λ j. IfSome (context_rules (type_in 7 (lookup_in putting 0) j == 6) (subtable_in 7 (lookup_in putting 0)
-        j) number)
-        (λ rules. (j : ℕ) → j < rules.count → ApplyOneForOne false putting 2 (rules.rule j).records (rules.rule
-        j).count)) z (each number));
-  };
-  across = refl;
-  flagless = refl;
-}
-
-takes : TakesContexts 2 [] putting (use_for lookup) (text_of (glyph 2 0 256 ∷ glyph 3 1 256 ∷ []))
+takes : TakesContexts 2 [] one_context (use_for first_lookup) (text_of (glyph 2 0 256 ∷ glyph 3 1 256 ∷ []))
 takes =
     let none : HasNoComponents (glyph 2 0 256 ∷ glyph 3 1 256 ∷ []) = (refl, (refl, tt)) in
     let features : AllByRecursion HasFeature (glyph 2 0 256 ∷ glyph 3 1 256 ∷ []) = (omega arith, (omega arith, tt)) in
     record {
       components = none;
       features = features;
-      flagging = short_texts [] putting lookup (text_of (glyph 2 0 256 ∷ glyph 3 1 256 ∷ [])) 2 puts none features
-          (omega arith) (omega arith);
+      flagging = short_texts [] one_context first_lookup (text_of (glyph 2 0 256 ∷ glyph 3 1 256 ∷ [])) 2 puts_in_context
+          none features (omega arith) (omega arith);
       size = omega arith;
       operations = omega arith;
     }
@@ -155,10 +88,6 @@ second_piece (a ∷ b ∷ c ∷ ds) behind x y z e some more = absurd (omega (
   length-append ds behind,
 ))
 
-beside_long : (numbered : Numbering) (part gs : Glyphs) → AreAsIn numbered part gs → length gs ≡ length part
-beside_long numbered part gs same = sym (length-map gs unlinked)
-    ∙ as_long (map unlinked gs) (map unlinked part) same.glyphs ∙ length-map part unlinked
-
 -- a buffer of glyphs, as a piece of a text that is the same to those who read no flags
 as_piece : (numbered : Numbering) → ((list : List LigProps) → numbered list list ≡ true) → (text gs part : Glyphs)
     → SameButNumbers gs part → ligatures gs ≡ ligatures part → IsPiece numbered (text_of text) part (text_of gs)
@@ -175,7 +104,7 @@ as_piece numbered alike text gs part same links = record {
 abbrev Leaves : Numbering → Glyphs → Type 0
 Leaves numbered gs = BreaksWhereCleared Glyphs CutWhereClear (λ piece part. (one : Buffer)
     → IsPiece numbered (text_of gs) piece one
-    → HasOperations 2 one → AreAsIn numbered part (substituted_by [] putting lookup one).glyphs) gs (made gs)
+    → HasOperations 2 one → AreAsIn numbered part (substituted_by [] one_context first_lookup one).glyphs) gs (made gs)
 
 -- ---- WITHOUT FEATURES: a 3 that is of none, but flagged, is seen in the text; in a piece without the flag it isn't
 
@@ -242,7 +171,7 @@ spent gs =
     record b { lookups = record b.lookups { operations_left = 0 } }
 
 abbrev spent_made : Glyphs → Glyphs
-spent_made gs = (substituted_by [] putting lookup (spent gs)).glyphs
+spent_made gs = (substituted_by [] one_context first_lookup (spent gs)).glyphs
 
 unpaid_made : made unpaid ≡ front ++ (put 1 ∷ glyph 3 2 259 ∷ [])
 unfolding substituted applied lookup_applied lookup_stepped is_seen nested tried came_in nth_came begun unbroken is_short sights_of sight_of_input sight_of_context flag_in context_in kind_in first_at found_at around rule_in chained_in test_in reach_behind reach_before reach_from end_in input_in places_from next_from seen_by seen_as ignores may_pass bisect first_from ran machine_stepped turned lookup_called one_put single_put replaced new_props frame_shifted places_shifted climbing
@@ -257,7 +186,7 @@ unfolding substituted applied lookup_applied lookup_stepped is_seen nested tried
 unpaid_last = refl
 
 row_operations : (numbered : Numbering) → ((list : List LigProps) → numbered list list ≡ true)
-    → LookupLeaves numbered (text_of unpaid) (substituted_by [] putting) lookup (text_of unpaid) → ⊥
+    → LookupLeaves numbered (text_of unpaid) (substituted_by [] one_context) first_lookup (text_of unpaid) → ⊥
 row_operations numbered alike leaves =
     let back : Glyphs = put 1 ∷ glyph 3 2 259 ∷ [] in
     let it = leaves front back (subst (λ gs. CutWhereClear gs front back) (sym unpaid_made) (record {

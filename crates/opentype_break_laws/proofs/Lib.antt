@@ -21,6 +21,7 @@ pub mod FontPieces
 pub mod ContextRuns
 pub mod TwoSingles
 pub mod OneAsTwo
+pub mod OneContext
 pub mod PlacedPieces
 pub mod SingleMoves
 pub mod FontPositions
@@ -33,3 +34,4 @@ mod ContextRows
 mod PositionRows
 mod UnflaggedRows
 mod ContextTextRows
+mod OneContextRows

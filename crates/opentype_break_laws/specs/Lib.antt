@@ -6,6 +6,7 @@ pub mod FontPieces
 pub mod FontContexts
 pub mod TwoSingles
 pub mod OneAsTwo
+pub mod OneContext
 pub mod PlacedPieces
 pub mod FontPositions
 pub mod TwoAdjustments

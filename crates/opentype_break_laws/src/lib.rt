@@ -1,4 +1,4 @@
-//! What the lookups of a font leave of a text's pieces: laws, and three fonts that they are read for.
+//! What the lookups of a font leave of a text's pieces: laws, and four fonts that they are read for.
 #![tactic(auto)]
 
 ghost use Rattle.opentype_break_laws.specs.FontPieces.{FontLookupsLeavePieces, FontRunsLeavePieces, FontTextsBreak, OneForOneGoesByPieces};
@@ -7,11 +7,13 @@ ghost use Rattle.opentype_break_laws.specs.Sequences.{PresenceCompares};
 
 mod font_positions;
 mod one_as_two;
+mod one_context;
 mod two_adjustments;
 mod two_singles;
 
 pub use font_positions::font_positions_law;
 pub use one_as_two::substitute_sequence;
+pub use one_context::substitute_in_context;
 use shapers_editing::pipeline_breaks_law;
 pub use two_adjustments::adjust_glyphs;
 pub use two_singles::substitute_two;
