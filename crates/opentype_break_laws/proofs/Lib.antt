@@ -20,6 +20,7 @@ pub mod ContextPieces
 pub mod FontPieces
 pub mod ContextRuns
 pub mod TwoSingles
+pub mod NormalizedText
 pub mod OneAsTwo
 pub mod OneContext
 pub mod PlacedPieces
@@ -35,3 +36,4 @@ mod PositionRows
 mod UnflaggedRows
 mod ContextTextRows
 mod OneContextRows
+mod NormalizedTextRows

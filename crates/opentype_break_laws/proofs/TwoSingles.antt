@@ -5,7 +5,7 @@ use Rattle.opentype_font.specs.Lookups.{substituted_by}
 use Rattle.opentype_break_laws.specs.FontPieces.{FontLookupsLeavePieces, PutsOneForOne}
 use Rattle.opentype_break_laws.specs.TwoSingles.{IsMadeOfPieces, first_lookup, two_singles}
 
-two_for_two : PutsOneForOne two_singles first_lookup
+pub two_for_two : PutsOneForOne two_singles first_lookup
 two_for_two = record {
   table = (omega arith, λ i less. refl);
   flagless = refl;

@@ -5,6 +5,7 @@ pub mod Contexts
 pub mod FontPieces
 pub mod FontContexts
 pub mod TwoSingles
+pub mod NormalizedText
 pub mod OneAsTwo
 pub mod OneContext
 pub mod PlacedPieces

@@ -6,12 +6,14 @@ ghost use Rattle.opentype_break_laws.specs.FontContexts.{ContextRunsLeavePieces,
 ghost use Rattle.opentype_break_laws.specs.Sequences.{PresenceCompares};
 
 mod font_positions;
+mod normalized_text;
 mod one_as_two;
 mod one_context;
 mod two_adjustments;
 mod two_singles;
 
 pub use font_positions::font_positions_law;
+pub use normalized_text::substitute_normalized;
 pub use one_as_two::substitute_sequence;
 pub use one_context::substitute_in_context;
 use shapers_editing::pipeline_breaks_law;
