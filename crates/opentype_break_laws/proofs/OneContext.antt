@@ -20,7 +20,7 @@ use Rattle.shapers_editing.specs.PipelineBreaks.{AreAsIn, IsPiece, Numbering, li
 use Rattle.shapers_editing.proofs.PiecesAlike.{as_long, cut_each}
 use Rattle.opentype_break_laws.specs.Contexts.{ApplyOneForOne, HasFeature, HasOperations, PutsInContext, TakesContexts, lookup_named}
 use Rattle.opentype_break_laws.specs.FontContexts.{ContextsLeavePieces, ShortTextsFlag}
-use Rattle.opentype_break_laws.specs.OneContext.{IsPutInPieces, glyph_begun, one_context, put_in_context, text_begun}
+use Rattle.opentype_break_laws.specs.OneContext.{IsPutInPieces, glyph_begun, one_context, put_in_context, lookups_begun}
 use Rattle.opentype_break_laws.specs.OneForOne.{PutOneForOne}
 use Rattle.opentype_break_laws.specs.OrderedTexts.{HasNoComponents}
 use Rattle.opentype_break_laws.specs.TwoSingles.{first_lookup}
@@ -79,17 +79,17 @@ componentless : (gs : Glyphs) → HasNoComponents (map glyph_begun gs)
 componentless [] = tt
 componentless (g ∷ gs) = (refl, componentless gs)
 
-has_operations : (b : Buffer) → length b.glyphs ≤ 255 → HasOperations 2 (text_begun b)
+has_operations : (b : Buffer) → length b.glyphs ≤ 255 → HasOperations 2 (lookups_begun b)
 has_operations b few = omega (arith, few, length-map b.glyphs glyph_begun)
 
 takes : ShortTextsFlag → (b : Buffer) → length b.glyphs ≤ 255
-    → TakesContexts 2 [] one_context (use_for first_lookup) (text_begun b)
+    → TakesContexts 2 [] one_context (use_for first_lookup) (lookups_begun b)
 takes short b few =
     let long = length-map b.glyphs glyph_begun in
     record {
       components = componentless b.glyphs;
       features = featured b.glyphs;
-      flagging = short [] one_context first_lookup (text_begun b) 2 puts_in_context (componentless b.glyphs)
+      flagging = short [] one_context first_lookup (lookups_begun b) 2 puts_in_context (componentless b.glyphs)
           (featured b.glyphs) (omega (arith, few, long)) (has_operations b few);
       size = omega (arith, few, long);
       operations = has_operations b few;
@@ -141,7 +141,7 @@ as_begun numbered alike part gs same =
 
 piece_begun : (numbered : Numbering) → ((list : List LigProps) → numbered list list ≡ true) → (text : Buffer)
     (part : Glyphs) (one : Buffer) → IsPiece numbered text part one
-    → IsPiece numbered (text_begun text) (map glyph_begun part) (text_begun one)
+    → IsPiece numbered (lookups_begun text) (map glyph_begun part) (lookups_begun one)
 piece_begun numbered alike text part one is = record {
   same = as_begun numbered alike part one.glyphs is.same;
   level = is.level;
@@ -156,7 +156,7 @@ piece_begun numbered alike text part one is = record {
 pub put_in_pieces : ContextsLeavePieces → ShortTextsFlag → (old new : Buffer) → new ≡ put_in_context old
     → IsPutInPieces old new.glyphs
 put_in_pieces law short old new is few numbered alike front back cut =
-    let begun = text_begun old in
+    let begun = lookups_begun old in
     let made = law numbered begun [] one_context first_lookup begun 2 puts_in_context (takes short old few) front back
     (subst (λ (b : Buffer). CutWhereClear b.glyphs front back) is cut) in
     let own = cut_each glyph_begun begins old.glyphs made.before made.behind made.pieces in
@@ -166,12 +166,12 @@ put_in_pieces law short old new is few numbered alike front back cut =
       before = own.before;
       behind = own.behind;
       pieces = own.pieces;
-      first = λ one piece. made.first (text_begun one)
-          (subst (λ gs. IsPiece numbered begun gs (text_begun one)) own.first
+      first = λ one piece. made.first (lookups_begun one)
+          (subst (λ gs. IsPiece numbered begun gs (lookups_begun one)) own.first
           (piece_begun numbered alike old own.before one piece))
           (has_operations one (omega (arith, few, sizes, beside_long numbered own.before one.glyphs piece.same)));
-      second = λ one piece. made.second (text_begun one)
-          (subst (λ gs. IsPiece numbered begun gs (text_begun one)) own.second
+      second = λ one piece. made.second (lookups_begun one)
+          (subst (λ gs. IsPiece numbered begun gs (lookups_begun one)) own.second
           (piece_begun numbered alike old own.behind one piece))
           (has_operations one (omega (arith, few, sizes, beside_long numbered own.behind one.glyphs piece.same)));
     }

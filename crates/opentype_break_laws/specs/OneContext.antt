@@ -25,15 +25,15 @@ one_context = (0 ∷ 1 ∷ 0 ∷ 0 ∷ 0 ∷ 0 ∷ 0 ∷ 0 ∷ 0 ∷ 10 ∷ 0 �
 abbrev pub glyph_begun : Glyph → Glyph
 glyph_begun g = record g { mask = 256 + g.mask % 8; lig_props = no_ligature }
 
-abbrev pub text_begun : Buffer → Buffer
-text_begun b = record b {
+abbrev pub lookups_begun : Buffer → Buffer
+lookups_begun b = record b {
   glyphs = map glyph_begun b.glyphs;
   lookups = record_for (length b.glyphs);
 }
 
 -- what the font's first lookup makes of a text that begins so
 abbrev pub put_in_context : Buffer → Buffer
-put_in_context b = substituted_by [] one_context first_lookup (text_begun b)
+put_in_context b = substituted_by [] one_context first_lookup (lookups_begun b)
 
 -- Glyphs that came of a text of at most 255, at each clear place those that come of its pieces by
 -- themselves.

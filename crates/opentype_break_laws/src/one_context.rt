@@ -1,7 +1,7 @@
 //! A font of one context, and what its lookup leaves of a text's pieces.
 ghost use Rattle.std.specs.Prelude.{◌≡◌, [], OnErr, OnOk, IsOkUnless};
 ghost use Rattle.shapers_buffer.specs.declared.buffer.refusal.ShaperError.TheVariants.{Memory};
-ghost use Rattle.opentype_break_laws.specs.OneContext.{IsPutInPieces, glyph_begun, one_context, put_in_context, text_begun};
+ghost use Rattle.opentype_break_laws.specs.OneContext.{IsPutInPieces, glyph_begun, one_context, put_in_context, lookups_begun};
 
 use crate::font_contexts_law;
 use opentype_face::class_table::ClassTable;
@@ -33,7 +33,7 @@ fn begin_glyph(glyph: &mut hb_glyph_info_t)
 
 // Does so with each glyph of a text, and gives its lookups the operations that its length has.
 fn begin_lookups(buffer: &mut hb_buffer_t)
-    ensures { buffer.new ≡ text_begun buffer.old }
+    ensures { buffer.new ≡ lookups_begun buffer.old }
 {
     buffer.change_all_by(|glyph| begin_glyph(glyph));
     buffer.set_lookup_record(LookupRecord::for_text(buffer.len()));
@@ -51,7 +51,7 @@ pub fn substitute_in_context(buffer: &mut hb_buffer_t) -> Result<(), ShaperError
     ensures ok { OnOk result (buffer.new ≡ put_in_context buffer.old) }
     ensures pieces { OnOk result (IsPutInPieces buffer.old buffer.new.glyphs) }
     ensures refusal { IsOkUnless result Memory }
-    ensures err { OnErr result (buffer.new ≡ text_begun buffer.old) }
+    ensures err { OnErr result (buffer.new ≡ lookups_begun buffer.old) }
 {
     font_contexts_law();
     begin_lookups(buffer);
