@@ -1,5 +1,7 @@
 //! Calls of the crate on made texts; `checks/speed` counts what runs within `counted`. Ten texts have a hundred characters, and
 //! two have two thousand whose clusters fall, where a walk that looks for a cluster's first glyph each time would be quadratic.
+//! Two more have two thousand whose clusters fall so that neighbouring syllables share one: there each merge floods all that
+//! stands before it, and time would be quadratic if what merges flood weren't carried along and written once.
 //! Three texts of a hundred characters are shaped in a font, each by a face that is prepared and by one that is only parsed.
 //! For each call a line tells its name, the glyphs, and a sum of what it left.
 
@@ -113,6 +115,19 @@ const FALLING: [Case; 2] = [
     ),
 ];
 
+/// Calls on long texts in which the last glyph of each syllable, which has two, is in the cluster of the next one's first.
+const SHARING: [Case; 2] = [
+    ("Hangul, clusters shared", Shaper::Hangul, script::HANGUL, "\u{1112}\u{1161}", &[], Counted::PreprocessText),
+    (
+        "order, Khmer, clusters shared",
+        Shaper::Khmer,
+        script::KHMER,
+        "\u{1780}\u{17C1}",
+        &[Pause::SetupSyllablesKhmer],
+        Counted::Pause(Pause::ReorderKhmer),
+    ),
+];
+
 /// What a text in a font repeats, with its script and direction. In a prepared face each spares what no contract can promise:
 /// the first the lookups that can begin nowhere in a text, the second searches for the glyphs of pairs and their classes, the
 /// third searches for the glyphs that subtables of GSUB begin with.
@@ -176,10 +191,11 @@ fn case_ends() {
     black_box(());
 }
 
-fn let_clusters_fall(buffer: &mut Buffer) {
+/// Numbers the clusters of a text from its end on.
+fn let_clusters_fall(cluster_of: fn(u32) -> u32, buffer: &mut Buffer) {
     buffer.with_glyphs_mut(|glyphs| {
-        for (glyph, cluster) in glyphs.iter_mut().rev().zip(0..) {
-            glyph.cluster = cluster;
+        for (glyph, place) in glyphs.iter_mut().rev().zip(0..) {
+            glyph.cluster = cluster_of(place);
         }
     });
 }
@@ -218,15 +234,18 @@ fn shape_in_fonts() {
 }
 
 fn main() {
-    let short = CASES.iter().map(|case| (case, 100, false));
-    let long = FALLING.iter().map(|case| (case, 2_000, true));
-    for (&(name, shaper, script, unit, before, how), length, falls) in short.chain(long) {
+    let short = CASES.iter().map(|case| (case, 100, None));
+    let falling: fn(u32) -> u32 = |place| place;
+    let sharing: fn(u32) -> u32 = |place| place.div_ceil(2);
+    let long = FALLING.iter().map(|case| (case, 2_000, Some(falling)));
+    let longer = SHARING.iter().map(|case| (case, 2_000, Some(sharing)));
+    for (&(name, shaper, script, unit, before, how), length, cluster_of) in short.chain(long).chain(longer) {
         let plan = plan(shaper, script);
         let text: String = unit.chars().cycle().take(length).collect();
         let mut buffer = Buffer::from_text(&text, &UnicodeTables).expect("there is memory");
         buffer.set_script(Some(script));
-        if falls {
-            let_clusters_fall(&mut buffer);
+        if let Some(cluster_of) = cluster_of {
+            let_clusters_fall(cluster_of, &mut buffer);
         }
         if !matches!(how, Counted::PreprocessText | Counted::SetupMasks) {
             call(Counted::SetupMasks, shaper, &plan, &mut buffer);
