@@ -49,7 +49,12 @@ impl NormalizeContext for Latin {
     }
 
     fn variation_glyph(&self, c: u32, selector: u32) -> Option<GlyphId> {
-        ((c, selector) == (0x65, 0xFE01)).then_some(GlyphId(99))
+        match (c, selector) {
+            (0x65, 0xFE01) => Some(GlyphId(99)),
+            // (which no font should have: a selector behind another one selects nothing)
+            (0xFE01, 0xFE02) => Some(GlyphId(98)),
+            _ => None,
+        }
     }
 
     fn general_category(&self, c: u32) -> GeneralCategory {
@@ -117,6 +122,18 @@ fn marks_are_ordered_and_composed() {
     assert_eq!(numbers, [5, 4]);
 }
 
+/// The last mark, whose class is the least, comes to the front of 32 marks, and stays behind 33.
+#[test]
+fn up_to_32_marks_are_ordered() {
+    for (count, first, last) in [(31, 0x323, 0x301), (32, 0x323, 0x301), (33, 0x301, 0x323)] {
+        let marks = "\u{301}".repeat(count - 1);
+        let mut text = buffer(&WHOLE, &format!("b{marks}\u{323}"));
+        normalize(&WHOLE, Rounds::AsCode, &mut text).unwrap();
+        let left = characters(&text);
+        assert_eq!((left.len(), left[1], left[count]), (count + 1, first, last));
+    }
+}
+
 #[test]
 fn a_letter_alone_stays_apart_unless_rounds_always_run() {
     let mut text = buffer(&WHOLE, "\u{1EBF}");
@@ -144,6 +161,18 @@ fn a_form_that_the_font_has_stands_for_letter_and_selector() {
     normalize(&WHOLE, Rounds::AsCode, &mut text).unwrap();
     let glyphs: Vec<_> = text.glyphs().iter().map(shown).collect();
     assert_eq!(glyphs, [(0x65, 99, 0), (0xFE00, 0, 4)]);
+}
+
+/// The second of two selectors doesn't come into the cluster of the form that the first one selects.
+#[test]
+fn a_selector_behind_another_selects_nothing() {
+    let mut text = buffer(&WHOLE, "e\u{FE01}\u{FE02}");
+    normalize(&WHOLE, Rounds::AsCode, &mut text).unwrap();
+    let left: Vec<_> = text
+        .iter()
+        .map(|glyph| (glyph.glyph_props.0, glyph.cluster))
+        .collect();
+    assert_eq!(left, [(99, 0), (0, 4)]);
 }
 
 #[test]
