@@ -41,15 +41,17 @@ pub struct Choices {
     last: u32,
     /// Categories that belong together, which are likely.
     theme: Option<&'static [u8]>,
+    /// Whether the lists of this call are about as long as a run of marks may be that is ordered; none before it is drawn.
+    has_many_marks: Option<bool>,
 }
 
 impl Choices {
     pub fn new(seed: u64) -> Self {
-        Choices { given: Vec::new(), at: 0, state: mixed(seed) | 1, place: None, is_void: false, last: 0, theme: None }
+        Choices { given: Vec::new(), at: 0, state: mixed(seed) | 1, place: None, is_void: false, last: 0, theme: None, has_many_marks: None }
     }
 
     pub fn again(given: Vec<u64>) -> Self {
-        Choices { given, at: 0, state: 0, place: None, is_void: false, last: 0, theme: None }
+        Choices { given, at: 0, state: 0, place: None, is_void: false, last: 0, theme: None, has_many_marks: None }
     }
 
     /// For the call at this place among those for each argument that there is.
@@ -85,11 +87,21 @@ impl Choices {
     /// A value of its own, or one that is drawn by the numbers from a place on.
     pub fn twin<T: Draw>(&mut self, from: usize) -> T {
         let given = self.given[from..self.at].to_vec();
-        if self.once_in(3) { T::draw(self) } else { T::draw(&mut Choices { theme: self.theme, ..Choices::again(given) }) }
+        if self.once_in(3) { T::draw(self) } else { T::draw(&mut Choices { theme: self.theme, has_many_marks: self.has_many_marks, ..Choices::again(given) }) }
     }
 
     pub fn once_in(&mut self, times: u64) -> bool {
         self.below(times) + 1 == times
+    }
+
+    /// Whether lists have 31 to 33 elements, and each glyph is a mark with a class. (Of up to 32 marks the order changes.)
+    fn has_many_marks(&mut self) -> bool {
+        let has = match self.has_many_marks {
+            Some(has) => has,
+            None => self.once_in(100),
+        };
+        self.has_many_marks = Some(has);
+        has
     }
 }
 
@@ -144,7 +156,11 @@ integers! {
     u16 as u16: |it| match it.below(4) { 0 => it.below(1 << 16) as u16, _ => it.below(20) as u16 };
     u32 as u32: number;
     u64 as u64: |it| number(it).into();
-    usize as u64: |it| match it.below(40) { 0 => it.one_of(&[100, 1000]), _ => it.below(14) as usize };
+    usize as u64: |it| match it.below(40) {
+        0 => it.one_of(&[100, 1000]),
+        1..20 if it.has_many_marks() => it.one_of(&[0, 31, 32, 33]),
+        _ => it.below(14) as usize,
+    };
     i32 as u32: |it| match it.below(4) { 0 => it.one_of(&[0, -1, 1, i32::MIN, i32::MAX, -1000]), _ => it.below(2000) as i32 - 300 };
     i64 as u64: |it| match it.below(4) { 0 => i64::from(i32::draw(it)) * 3, _ => it.below(6000) as i64 - 900 };
 }
@@ -167,6 +183,7 @@ fn number(it: &mut Choices) -> u32 {
 fn character(it: &mut Choices) -> u32 {
     it.last = match it.below(8) {
         0 => it.one_of(&SPECIAL),
+        1..=5 if is_selector(it.last) => behind(it),
         1 => 0xAC00 + it.below(11172) as u32,
         2 | 3 => behind(it),
         _ => it.one_of(&BLOCKS) + it.below(32) as u32,
@@ -181,6 +198,11 @@ const SPECIAL: [u32; 34] = [
     0xFE00, 0xE0100,
 ];
 
+/// Whether it is one of the variation selectors that are drawn.
+fn is_selector(c: u32) -> bool {
+    matches!(c, 0xFE00 | 0xE0100)
+}
+
 /// A character that a rule names behind the last one.
 fn behind(it: &mut Choices) -> u32 {
     let last = it.last;
@@ -193,6 +215,7 @@ fn behind(it: &mut Choices) -> u32 {
         0x915..=0x939 => 0x93C,
         0x5D0..=0x5EA => it.one_of(&[0x5B4, 0x5B7, 0x5B8, 0x5B9, 0x5BC, 0x5BF, 0x5C1, 0x5C2]),
         0xE01..=0xE2E => it.one_of(&[0xE31, 0xE38, 0xE48, 0xE33, 0xE4D]),
+        0xFE00 | 0xE0100 => it.one_of(&[0xFE00, 0xE0100]),
         _ => 0x1100 + it.below(19) as u32,
     }
 }
@@ -282,8 +305,14 @@ impl<T: Dump> Dump for Vec<T> {
 
 impl<T: Draw> Draw for Vec<T> {
     fn draw(choices: &mut Choices) -> Self {
-        let most = choices.one_of(&[3, 6, 12]);
-        (0..choices.below(most)).map(|_| T::draw(choices)).collect()
+        let len = match choices.has_many_marks() {
+            true => 31 + choices.below(3),
+            false => {
+                let most = choices.one_of(&[3, 6, 12]);
+                choices.below(most)
+            }
+        };
+        (0..len).map(|_| T::draw(choices)).collect()
     }
 }
 
@@ -395,12 +424,13 @@ impl<T: Draw> Draw for &'static mut [T] {
 
 impl Draw for GlyphInfo {
     fn draw(choices: &mut Choices) -> Self {
+        let glyph_id = match choices.below(8) {
+            0 => number(choices),
+            1..=3 => choices.below(300) as u32,
+            _ => character(choices),
+        };
         GlyphInfo {
-            glyph_id: match choices.below(8) {
-                0 => number(choices),
-                1..=3 => choices.below(300) as u32,
-                _ => character(choices),
-            },
+            glyph_id,
             cluster: choices.below(6) as u32,
             mask: match choices.below(3) {
                 0 => number(choices),
@@ -415,19 +445,24 @@ impl Draw for GlyphInfo {
                 0 => u8::draw(choices),
                 _ => choices.below(15) as u8,
             },
-            unicode_props: properties(choices),
+            unicode_props: properties(glyph_id, choices),
         }
     }
 }
 
-/// A character's properties: mostly a letter's, a mark's or a space's, and a class that some hook knows.
-fn properties(choices: &mut Choices) -> UnicodeProps {
+/// A character's properties: mostly a letter's, a mark's or a space's, and a class that some hook knows. A selector is a mark,
+/// but for one of eight.
+fn properties(c: u32, choices: &mut Choices) -> UnicodeProps {
+    let has_many_marks = choices.has_many_marks();
     // (the numbers 30 and 31 are no categories)
-    let category = match choices.below(3) {
-        0 => choices.below(32) as u16,
+    let category = match choices.below(8) {
+        _ if has_many_marks => 12,
+        1.. if is_selector(c) => 12,
+        0..3 => choices.below(32) as u16,
         _ => choices.one_of(&[7, 12, 12, 10, 29]),
     };
     let byte = match choices.below(8) {
+        _ if has_many_marks => choices.one_of(&[14, 22, 220, 230]),
         0 => u8::draw(choices),
         _ => choices.one_of(&[0, 0, 14, 15, 16, 20, 21, 22, 23, 25, 26, 27, 220, 220, 230, 230]),
     };
