@@ -4,10 +4,12 @@ use crate::common::buffers::{buffer_of, letter, set_advances};
 use crate::common::fonts::PlainFont;
 use crate::trial::{Subject, Trial};
 use sengadlit::alloc::{Global, Vec as List};
-use sengadlit::buffer::{Buffer, GlyphInfo, Script, ShaperError, Tag};
+use sengadlit::buffer::{Buffer, Direction, GlyphInfo, Script, ShaperError, Tag};
+use sengadlit::editing::caret_stops;
 use sengadlit::map::{F_NONE, FeatureMap, Map};
 use sengadlit::plan::{Pause, Plan, PlanError, Planner, Request};
 use sengadlit::shaper::Shaper;
+use std::cell::RefCell;
 
 /// A trial that takes memory.
 fn trial(
@@ -68,6 +70,35 @@ pub fn of_the_buffer(length: usize) -> Vec<Trial> {
             |subject| subject.buffer().push_str("a text of several characters"),
         ),
     ]
+}
+
+/// Stops of a caret before each second glyph of a text: a list without room takes memory, and one
+/// that has room for so many stops, and no more, takes none.
+pub fn of_caret_stops(length: usize) -> Vec<Trial> {
+    let mut trials = Vec::new();
+    for direction in [Direction::LeftToRight, Direction::RightToLeft] {
+        let mut glyphs: Vec<_> = (0..length as u32).map(|i| letter(0x61, i / 2)).collect();
+        if direction == Direction::RightToLeft {
+            glyphs.reverse();
+        }
+        let text = || Subject::Buffer(buffer_of(&glyphs, 100_000));
+        let name = format!("caret_stops, {direction:?}, of {length} glyphs");
+        trials.push(trial(name.clone(), text(), move |subject| {
+            caret_stops(subject.buffer().glyphs(), direction, &mut List::new(Global))
+        }));
+        let list = RefCell::new(List::with_capacity(Global, length / 2).unwrap());
+        let call = move |subject: &mut Subject| {
+            let stops = &mut *list.borrow_mut();
+            caret_stops(subject.buffer().glyphs(), direction, stops)?;
+            assert_eq!(stops.len(), length / 2);
+            Ok(())
+        };
+        trials.push(Trial {
+            may_refuse: false,
+            ..trial(format!("{name}, with room"), text(), call)
+        });
+    }
+    trials
 }
 
 /// Each call that exchanges a caller's lists for those of the buffer. A refused one gives the lists

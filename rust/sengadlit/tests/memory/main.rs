@@ -99,6 +99,13 @@ fn calls_of_the_buffer() {
 }
 
 #[test]
+fn stops_of_a_caret() {
+    for length in LENGTHS {
+        run(&lists::of_caret_stops(length));
+    }
+}
+
+#[test]
 fn calls_of_planner_and_map() {
     for length in LENGTHS {
         run(&lists::of_the_planner(length));
