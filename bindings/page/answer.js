@@ -7,9 +7,6 @@ const TAGS = {
   Knda: ["knd3", "knd2", "knda"], Mlym: ["mlm3", "mlm2", "mlym"], Mymr: ["mym2", "mymr"], Orya: ["ory3", "ory2", "orya"],
   Taml: ["tml3", "tml2", "taml"], Telu: ["tel3", "tel2", "telu"], Laoo: ["lao "], Nkoo: ["nko "],
 };
-// The scripts whose letters join, and what a font needs for that.
-const JOINING = ["Adlm", "Arab", "Mand", "Mong", "Nkoo", "Syrc"];
-const JOINING_FEATURES = { init: "initial", medi: "medial", fina: "final" };
 // What HarfRust 0.12.0 is known to do to texts: of a script, with these characters in them.
 const SHAPER_FAULTS = [
   ["Thai", /[\u0e31\u0e34-\u0e37\u0e47-\u0e4e]{2,}\u0e33/u, "Before SARA AM it draws one mark twice and loses another."],
@@ -35,10 +32,13 @@ const isInvisible = (c) => /\p{Default_Ignorable_Code_Point}/u.test(c);
 const isDrawn = (c) => c !== undefined && !isInvisible(c) && !/[\p{Cc}\p{Cs}\p{Z}]/u.test(c);
 const named = (c) => (isDrawn(c) ? `${shownIn(c)} (${codeOf(c)})` : codeOf(c));
 
-// The glyphs that a step prints: their numbers and the places of their characters.
+// The glyphs that a step prints: their numbers, the places of their characters, what the shaper notes of them, and where they are
+// drawn, if it tells that.
 function glyphsOf(step) {
-  const lines = (step?.printed ?? "").split("\n").filter((line) => line !== "");
-  return lines.map((line) => line.split(" ")).map(([number, cluster]) => ({ number, cluster: Number(cluster) }));
+  const rows = (step?.printed ?? "").split("\n").filter((line) => line !== "").map((line) => line.split(" "));
+  return rows.map(([number, cluster, , , , noted, , advance, offset]) => ({
+    number, cluster: Number(cluster), noted, advance: Number(advance), offset: Number(offset),
+  }));
 }
 
 // ---- The text ----
@@ -280,8 +280,8 @@ function findingsOfFont(text, shown, bytes, shaped) {
   const [gsub, gpos] = ["GSUB", "GPOS"].map((table) => safeLookupsOf(bytes, table, script));
   const isSimple = script === "Hebr" || script === "Hang" || script === "Thai" || script === "Laoo";
   if (!gsub && !isSimple) found.push(finding("font", `It has no substitutions for ${name}, so letters don't take the forms that the script needs.`));
-  const forms = Object.keys(JOINING_FEATURES).filter((feature) => gsub && !gsub.usual.has(feature));
-  if (JOINING.includes(script) && forms.length) found.push(finding("font", `It lacks the lookups for ${forms.map((form) => JOINING_FEATURES[form]).join(", ")} forms (${forms.join(", ")}).`));
+  // (a text is shaped as far as it is shown)
+  found.push(...findingsOfFeatures([...text].slice(0, shown.most).join(""), script, gsub));
   const placesMarks = ["mark", "abvm", "blwm"].some((feature) => gpos?.usual.has(feature));
   if (/\p{Mn}/u.test(text) && !placesMarks) found.push(finding("font", "It doesn't place marks for this script (GPOS lacks mark, abvm and blwm), so they may stand beside their letters."));
   const features = featuresInWords(gsub, gpos);

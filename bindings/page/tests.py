@@ -15,6 +15,7 @@ import urllib.parse
 sys.dont_write_bytecode = True
 sys.path.insert(1, str(pathlib.Path(__file__).resolve().parent.parent))
 from chromium import Failed, Page  # noqa: E402
+from feature_tests import FeatureTests  # noqa: E402
 from words import hunspell, is_in, spread  # noqa: E402
 
 TOP = pathlib.Path(__file__).resolve().parent.parent.parent
@@ -55,7 +56,7 @@ def rows_of(path):
             yield "\n".join(script), [line for line in lines if not line.startswith(">")]
 
 
-class Tests:
+class Tests(FeatureTests):
     def __init__(self, folder, program, root, scratch):
         self.program, self.root = program, root
         self.fonts = pathlib.Path(root) / "usr/share/fonts/truetype/noto"
@@ -549,7 +550,7 @@ def main(folder, program, root):
     with tempfile.TemporaryDirectory() as scratch:
         tests = Tests(folder, program, root, pathlib.Path(scratch))
         try:
-            for name in [name for name in vars(Tests) if name.startswith("test_")]:
+            for name in [name for name in (*vars(FeatureTests), *vars(Tests)) if name.startswith("test_")]:
                 try:
                     told = getattr(tests, name)()
                     passed += 1

@@ -1,0 +1,180 @@
+"""Tests of what the page says of features that a text asks for and a font lacks (features.js).
+
+The fonts are Debian's with the tags of some features renamed. Which characters ask for which
+feature, and what it makes of them, is what OpenType's specification of each script says.
+"""
+
+import unicodedata
+
+BELOW = "keeps its whole form instead of one below the letter before it."
+BESIDE = "keeps its whole form instead of one beside the letter before it."
+BEFORE = "keeps its whole form instead of one before the letter that it follows in the text."
+REPH = "isn't drawn as a reph, the sign that it has before another letter."
+JOINED = "isn't joined with the letter before it into the sign that is usual for both."
+WHOLE = "keeps its whole form, with the virama after it."
+SUBSCRIPT = "isn't drawn as a subscript."
+TWICE = "keeps its whole form behind its left part, which may then be drawn twice."
+KINZI = "isn't drawn as a kinzi, the sign that it has above the letter after it."
+STARTS = "starts a word in the form for the middle of one, which may have a line at its left."
+FINAL = "which joins the letter before it, keeps the form that it has alone."
+MEDIAL = "which joins the letters on both sides, keeps the form that it has alone."
+INITIAL = "which joins the letter after it, keeps the form that it has alone."
+ENDS = "which ends a word, keeps the form that it has alone."
+
+# Of a font, the features that it is robbed of and those that are told: words, each with the
+# character that is told, which one of the word it is and what is seen; or with None, where no fault
+# is told.
+WORDS = [
+    ("Devanagari", "half", "half", [
+        ("\u0938\u094d\u0924\u0947", "\u0938", 1, WHOLE),
+        ("\u0936\u0915\u094d\u0924\u093f", "\u0915", 2, WHOLE),
+        ("\u091c\u093c\u094d\u0924", "\u091c", 1, WHOLE),
+        ("\u0938\u094d\u200d\u0924", "\u0938", 1, WHOLE),
+        # what other features do: KSSA, DDHA, RA above and below; and a virama that is asked for
+        ("\u0915\u094d\u0937", None), ("\u0926\u094d\u0927", None),
+        ("\u0938\u0942\u0930\u094d\u092f", None),
+        ("\u0915\u094d\u0930", None), ("\u0938\u094d\u200c\u0924", None),
+        ("\u0938\u0924\u094d", None),
+        # DA has no half form in the whole font either
+        ("\u0926\u094d\u0917", None)]),
+    ("Devanagari", "rphf", "rphf", [
+        ("\u0938\u0942\u0930\u094d\u092f", "\u0930", 3, REPH),
+        ("\u092a\u094d\u0930", None), ("\u0930\u094d\u200d\u092f", None), ("\u0930\u092e", None)]),
+    ("Devanagari", "rkrf", "rkrf blwf vatu", [("\u0915\u094d\u0930", None)]),
+    ("Devanagari", "rkrf blwf", "rkrf blwf vatu", [
+        ("\u0915\u094d\u0930", "\u0930", 3, BELOW), ("\u091f\u094d\u0930", "\u0930", 3, BELOW),
+        ("\u0930\u094d\u0930", None), ("\u0915\u094d\u200d\u0930", None)]),
+    ("Devanagari", "akhn", "akhn", [
+        ("\u0915\u094d\u0937", "\u0937", 3, JOINED), ("\u091c\u094d\u091e", "\u091e", 3, JOINED),
+        ("\u0938\u094d\u0924", None)]),
+    ("Bengali", "init", "init", [
+        ("\u0995\u09c7", "\u09c7", 2, STARTS), ("\u0995\u09cb", "\u09cb", 2, STARTS),
+        ("\u09b8\u09cd\u09a4\u09c8", "\u09c8", 4, STARTS),
+        ("\u0986\u09ae\u09be\u0995\u09c7 \u09b8\u09c7", "\u09c7", 8, STARTS),
+        ("\u09ac\u09be\u0995\u09c7", None), ("\u0995\u09be", None)]),
+    ("Bengali", "rphf", "rphf", [
+        ("\u09b0\u09cd\u0995", "\u09b0", 1, REPH), ("\u09b0\u200d\u09cd\u09af", None)]),
+    ("Bengali", "blwf", "rkrf blwf vatu", [("\u0995\u09cd\u09b0", "\u09b0", 3, BELOW)]),
+    ("Bengali", "blwf", "blwf", [
+        ("\u09b8\u09cd\u09ac", "\u09ac", 3, BELOW), ("\u09b0\u09cd\u09ac", None)]),
+    ("Bengali", "pstf", "pstf", [
+        ("\u0995\u09cd\u09af", "\u09af", 3, BESIDE), ("\u09b0\u09cd\u09af", None)]),
+    ("Bengali", "half", "half", [
+        ("\u0995\u09cd\u09a4", "\u0995", 1, WHOLE), ("\u0995\u09cd\u09b7", None)]),
+    ("Gujarati", "half", "half", [
+        ("\u0ab8\u0acd\u0aa4", "\u0ab8", 1, WHOLE), ("\u0ab8\u0aa4", None)]),
+    # (the feature half makes another sign of that RA)
+    ("Gujarati", "rphf", "rphf", [
+        ("\u0ab0\u0acd\u0a95", "\u0ab0", 1, REPH), ("\u0a95\u0acd\u0ab0", None)]),
+    ("Gurmukhi", "blwf", "rkrf blwf vatu", [
+        ("\u0a2a\u0a4d\u0a30", "\u0a30", 3, BELOW), ("\u0a2a\u0a4d\u0a39", "\u0a39", 3, BELOW),
+        ("\u0a2a\u0a30", None)]),
+    ("Gurmukhi", "pstf", "pstf", [("\u0a2a\u0a4d\u0a2f", "\u0a2f", 3, BESIDE)]),
+    ("Oriya", "rphf", "rphf", [("\u0b30\u0b4d\u0b15", "\u0b30", 1, REPH)]),
+    ("Oriya", "blwf", "blwf", [
+        ("\u0b15\u0b4d\u0b30", "\u0b30", 3, BELOW), ("\u0b30\u0b4d\u0b15", None)]),
+    ("Oriya", "pstf", "pstf", [("\u0b15\u0b4d\u0b5f", "\u0b5f", 3, BESIDE)]),
+    ("Tamil", "akhn", "akhn", [
+        ("\u0b95\u0bcd\u0bb7", "\u0bb7", 3, JOINED), ("\u0b95\u0bcd\u0b95", None)]),
+    ("Telugu", "blwf", "blwf", [
+        ("\u0c15\u0c4d\u0c15", "\u0c15", 3, BELOW), ("\u0c15\u0c4d\u200c\u0c15", None)]),
+    ("Kannada", "blwf", "blwf", [
+        ("\u0c95\u0ccd\u0c95", "\u0c95", 3, BELOW), ("\u0cb0\u0ccd\u0c95", None)]),
+    ("Kannada", "rphf", "rphf", [("\u0cb0\u0ccd\u0c95", "\u0cb0", 1, REPH)]),
+    ("Malayalam", "pref", "pref", [
+        ("\u0d15\u0d4d\u0d30", "\u0d30", 3, BEFORE), ("\u0d15\u0d4d\u0d15", None)]),
+    ("Malayalam", "pstf", "pstf", [
+        ("\u0d15\u0d4d\u0d2f", "\u0d2f", 3, BESIDE), ("\u0d38\u0d4d\u0d35", "\u0d35", 3, BESIDE),
+        ("\u0d2f\u0d4d\u0d2f", None)]),
+    ("Sinhala", "rphf", "rphf", [
+        ("\u0db0\u0dbb\u0dca\u200d\u0db8", "\u0dbb", 2, REPH), ("\u0db0\u0dbb\u0dca\u0db8", None)]),
+    ("Khmer", "blwf", "blwf", [
+        ("\u1781\u17d2\u1798\u17c2\u179a", "\u1798", 3, SUBSCRIPT),
+        ("\u1781\u17d2\u1799", None), ("\u1781\u17d2\u179a", None)]),
+    ("Khmer", "pref", "pref", [
+        ("\u1781\u17d2\u179a", "\u179a", 3, SUBSCRIPT), ("\u1781\u17d2\u1798", None)]),
+    # (in that font other features give the vowel sign OO its right part)
+    ("Khmer", "pstf", "pstf", [
+        ("\u1781\u17d2\u1799", "\u1799", 3, SUBSCRIPT), ("\u1781\u17d2\u1798", None),
+        ("\u1780\u17c4", None)]),
+    ("Khmer", "pstf psts", "pstf", [("\u1780\u17c0", "\u17c0", 2, TWICE)]),
+    ("Khmer", "abvf", "abvf", [("\u1780\u17be", "\u17be", 2, TWICE), ("\u1780\u17b8", None)]),
+    ("Myanmar", "blwf", "blwf", [
+        ("\u1000\u1039\u1000", "\u1000", 3, SUBSCRIPT),
+        ("\u1021\u1004\u103a\u1039\u1000", None)]),
+    ("Myanmar", "abvs blwf blws", "rphf", [("\u1021\u1004\u103a\u1039\u1000", "\u1004", 2, KINZI)]),
+    ("Javanese", "blwf", "blwf", [
+        ("\ua98f\ua9c0\ua98f", "\ua98f", 3, SUBSCRIPT), ("\ua98f\ua9c0", None)]),
+    ("Balinese", "blwf", "blwf", [
+        ("\u1b13\u1b44\u1b13", "\u1b13", 3, SUBSCRIPT), ("\u1b13\u1b44", None)]),
+    ("Arabic", "init", "init", [
+        ("\u0628\u064e\u064a\u062a", "\u0628", 1, INITIAL), ("\u062f\u0627\u0631", None),
+        ("\u0640\u0628", None)]),
+    ("Arabic", "medi", "medi", [
+        ("\u0628\u064a\u062a", "\u064a", 2, MEDIAL), ("\u0628\u0627", None)]),
+    ("Arabic", "fina", "fina", [
+        ("\u0628\u064a\u062a", "\u062a", 3, FINAL), ("\u062f\u0627\u0631", None)]),
+    ("Syriac", "fin2", "fin2", [
+        ("\u0717\u0718\u0710", "\u0710", 3, ENDS), ("\u0721\u0720\u071f\u0710", None)]),
+    ("Adlam", "init", "init", [("\U0001e906\U0001e935", "\U0001e906", 1, INITIAL)]),
+    ("NKo", "medi", "medi", [("\u07de\u07de\u07de", "\u07de", 2, MEDIAL), ("\u07de\u07de", None)]),
+    ("Mongolian", "fina", "fina", [("\u182e\u1823\u182f", "\u182f", 3, FINAL)]),
+    ("Mandaic", "init", "init", [("\u084c\u0840", "\u084c", 1, INITIAL)]),
+]
+# The names of scripts that aren't those of the fonts.
+NAMES = {"Oriya": "Odia", "NKo": "N\u2019Ko", "Mandaic": "Mandaean"}
+
+
+def lack(features, script):
+    """That a font has none of these features, in words."""
+    *first, last = [f"\u201c{feature}\u201d" for feature in features.split()]
+    if not first:
+        return f"The font: It has no feature {last} for {script}"
+    return f"The font: It has none of the features {', '.join(first)} and {last} for {script}"
+
+
+def sentence(script, features, character, nth, seen):
+    """What is told of a character."""
+    shown = ("" if unicodedata.category(character).startswith("L") else "\u25cc") + character
+    which = f"{nth}{ {1: 'st', 2: 'nd', 3: 'rd'}.get(nth, 'th') }"
+    code = f"U+{ord(character):04X}"
+    return f"{lack(features, script)}, so {shown} ({code}), the {which} character, {seen}"
+
+
+class FeatureTests:
+    """Its `cases`, `noto`, `spoilt` and `page` are those of tests.py."""
+
+    def robbed(self, name, features, table=b"GSUB"):
+        """A font of Debian's without features."""
+        tags = features.split()
+        return self.spoilt(name, *((table, tag.encode(), b"zzzz") for tag in tags))
+
+    def test_features_that_a_word_asks_for(self):
+        """Each sentence is told of the first character that shows it, and none of a word that
+        doesn't ask for the feature or in which another one does it. In the whole font no word has a
+        fault."""
+        robbed, whole = [], []
+        for name, features, missed, words in WORDS:
+            font = self.robbed(name, features)
+            for word, *told in words:
+                wanted = None if told == [None] else sentence(NAMES.get(name, name), missed, *told)
+                robbed.append((font, word, "font", wanted))
+                whole.append((self.noto(name), word, "font", None))
+        # (the text is shaped as far as it is shown, which is up to the virama of a KSSA)
+        robbed.append((self.robbed("Devanagari", "half"), "\u0915\u094d\u0937" * 1000, "font", None))
+        return self.cases(robbed) + ", and " + self.cases(sorted(whole, key=str))
+
+    def test_a_feature_of_some_languages(self):
+        """A font that has a feature for some languages alone isn't said to have none."""
+        def told(usual, others=()):
+            """Where these features are those of the usual language, and those of others."""
+            usual, any_language = list(usual), [*usual, *others]
+            lookups = f"{{ usual: new Set({usual}), any: new Set({any_language}) }}"
+            return self.page.run(f"lackInWords({lookups}, ['init', 'medi'], 'Arab')")
+
+        assert told(["medi"]) is None
+        some = "It has the feature \u201cinit\u201d for some languages of Arabic alone"
+        assert told(["fina"], ["init"]) == some, told(["fina"], ["init"])
+        none = "It has none of the features \u201cinit\u201d and \u201cmedi\u201d for Arabic"
+        assert told(["fina"]) == none, told(["fina"])
+        assert self.page.run("lackInWords(null, ['init', 'medi'], 'Arab')") == none
