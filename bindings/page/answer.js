@@ -203,15 +203,22 @@ function pairSentences(text, mark) {
 
 const tagsOf = (script) => TAGS[script] ?? [script.toLowerCase()];
 
+// Where a table of a font begins; undefined where the font has none.
+function tableAt(bytes, name) {
+  const view = new DataView(bytes.buffer, bytes.byteOffset, bytes.byteLength);
+  const tag = (at) => String.fromCharCode(...bytes.subarray(at, at + 4));
+  const start = tag(0) === "ttcf" ? view.getUint32(12) : 0;
+  const records = Array.from({ length: view.getUint16(start + 4) }, (_, i) => start + 12 + 16 * i);
+  return records.filter((record) => tag(record) === name).map((record) => view.getUint32(record + 8))[0];
+}
+
 // The tag by which a script's lookups are found in a table, and their features: those of the usual language, and those of any.
 // It is null where the font has no such table, or nothing for the script.
 function lookupsOf(bytes, table, script) {
   const view = new DataView(bytes.buffer, bytes.byteOffset, bytes.byteLength);
   const tag = (at) => String.fromCharCode(...bytes.subarray(at, at + 4));
   const records = (at, size) => Array.from({ length: view.getUint16(at) }, (_, i) => at + 2 + size * i);
-  const start = tag(0) === "ttcf" ? view.getUint32(12) : 0;
-  const tables = Array.from({ length: view.getUint16(start + 4) }, (_, i) => start + 12 + 16 * i);
-  const at = tables.filter((record) => tag(record) === table).map((record) => view.getUint32(record + 8))[0];
+  const at = tableAt(bytes, table);
   if (at === undefined) return null;
   const scripts = at + view.getUint16(at + 4);
   const wanted = [...tagsOf(script), ...DEFAULTS];
@@ -281,9 +288,7 @@ function findingsOfFont(text, shown, bytes, shaped) {
   const isSimple = script === "Hebr" || script === "Hang" || script === "Thai" || script === "Laoo";
   if (!gsub && !isSimple) found.push(finding("font", `It has no substitutions for ${name}, so letters don't take the forms that the script needs.`));
   // (a text is shaped as far as it is shown)
-  found.push(...findingsOfFeatures([...text].slice(0, shown.most).join(""), script, gsub));
-  const placesMarks = ["mark", "abvm", "blwm"].some((feature) => gpos?.usual.has(feature));
-  if (/\p{Mn}/u.test(text) && !placesMarks) found.push(finding("font", "It doesn't place marks for this script (GPOS lacks mark, abvm and blwm), so they may stand beside their letters."));
+  found.push(...findingsOfFeatures([...text].slice(0, shown.most).join(""), script, gsub, gpos, bytes));
   const features = featuresInWords(gsub, gpos);
   if (features) found.push(finding("font", `For ${name} it has the features ${features}. Not all of them are on in every text or language. If a form is missing in the picture, the font may lack its feature.`, false));
   return found;

@@ -178,3 +178,32 @@ class FeatureTests:
         none = "It has none of the features \u201cinit\u201d and \u201cmedi\u201d for Arabic"
         assert told(["fina"]) == none, told(["fina"])
         assert self.page.run("lackInWords(null, ['init', 'medi'], 'Arab')") == none
+
+    def test_features_that_marks_ask_for(self):
+        """A mark without a width is drawn over its letter by its outline, which is no fault. Two
+        marks are told where they are drawn over each other, as the font places both on the letter."""
+        thai = "\u0e17\u0e35\u0e48"
+        # (the sign II is as wide as 512 units, and begins where it did)
+        wide = (b"hmtx", b"\0\0\xfd\xfe", b"\2\0\xfd\xfe")
+        no_mark = (b"GPOS", b"mark", b"zzzz")
+        mark = lambda seen: sentence("Thai", "mark abvm blwm", "\u0e35", 2, seen)  # noqa: E731
+        over = "\u25cc%s (U+%04X) and \u25cc%s (U+%04X), the 3rd character, are drawn over each other"
+        two = lambda script, one, other: (  # noqa: E731
+            f"{lack('mkmk', script)}, which places one mark on another, so "
+            + over % (one, ord(one), other, ord(other)) + ".")
+        no_mkmk = {name: self.robbed(name, "mkmk", b"GPOS") for name in ("Thai", "Lao", "Myanmar")}
+        distant = mark("stands at the same distance from the end of every letter.")
+        return self.cases([
+            (self.spoilt("Thai", no_mark), thai[:2], "font", distant),
+            (self.spoilt("Thai", no_mark), thai[:2], "font", None),
+            (self.spoilt("Thai", no_mark, wide), thai[:2], "font",
+                mark("may not stand where its letter needs it.")),
+            (self.spoilt("Thai", wide), thai[:2], "font", None),
+            (self.noto("Thai"), thai, "font", None),
+            (no_mkmk["Thai"], thai, "font", two("Thai", "\u0e35", "\u0e48")),
+            (no_mkmk["Thai"], thai[:2], "font", None),
+            # one above the letter, and one below
+            (no_mkmk["Thai"], "\u0e17\u0e38\u0e48", "font", None),
+            (no_mkmk["Lao"], "\u0e97\u0eb5\u0ec8", "font", two("Lao", "\u0eb5", "\u0ec8")),
+            (no_mkmk["Myanmar"], "\u1000\u102d\u102f", "font", None),
+        ])

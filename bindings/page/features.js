@@ -203,11 +203,64 @@ function sentencesOnForms(text, script, gsub, inFont) {
   });
 }
 
-// What a text asks of a font's features and the font lacks.
-function findingsOfFeatures(text, script, gsub) {
+// ---- Marks ----
+
+// The features that place a mark on a letter.
+const PLACING = ["mark", "abvm", "blwm"];
+// Marks that are drawn through a letter, and characters that only tell of a subscript.
+const UNPLACED =
+  /[\u0334-\u0338\u1039\u17d2\u1a60\u1bab\u20d2\u20d3\u20d8-\u20da\u20e5\u20e6\u20ea\u20eb]/u;
+const isPlaced = (c) => /\p{Mn}/u.test(c ?? "") && !isInvisible(c) && !UNPLACED.test(c);
+
+// How wide a glyph is in the font, whatever width a shaper leaves it; 0 where that can't be read.
+function widthInFont(bytes, number) {
+  try {
+    const view = new DataView(bytes.buffer, bytes.byteOffset, bytes.byteLength);
+    const count = view.getUint16(tableAt(bytes, "hhea") + 34);
+    return view.getUint16(tableAt(bytes, "hmtx") + 4 * Math.min(number, count - 1));
+  } catch {
+    return 0;
+  }
+}
+
+// The first mark that no feature places, where it has a glyph of its own. One without a width is drawn
+// over the end of the letter by its outline, which is how some fonts are made.
+function findingsOfMarks(text, script, gpos, bytes, inFont) {
+  const characters = [...text];
+  const lack = lackInWords(gpos, PLACING, script);
+  if (!lack || !characters.some(isPlaced)) return [];
+  const place = characters.findIndex((c, i) => isPlaced(c) && keepsGlyphs(inFont(), i));
+  if (place < 0) return [];
+  const so = `${lack}, so ${toldAt(characters, place)},`;
+  const isWide = ({ number }) => widthInFont(bytes, parseInt(number, 16)) > 0;
+  if (inFont().alone.get(place).some(isWide))
+    return [finding("font", `${so} may not stand where its letter needs it.`)];
+  if (inFont().drawn.get(place).some(({ offset }) => offset !== 0)) return [];
+  return [finding("font", `${so} stands at the same distance from the end of every letter.`, false)];
+}
+
+// The first mark that is drawn over the one before it (font.js), in a font that places marks on
+// letters and not on marks.
+function sentencesOnTwoMarks(text, script, bytes) {
+  const gpos = script && safeLookupsOf(bytes, "GPOS", script);
+  if (!gpos || lackInWords(gpos, PLACING, script)) return [];
+  const lack = lackInWords(gpos, ["mkmk"], script);
+  const characters = [...text];
+  const isPair = (c, next) => isPlaced(c) && isPlaced(next) && c !== next;
+  const pairs = characters.flatMap((c, i) => (isPair(c, characters[i + 1]) ? [i] : []));
+  const place = lack && pairs.length ? pairs.find(coveringMarks(text)) : undefined;
+  if (place === undefined) return [];
+  const [first, second] = [named(characters[place]), toldAt(characters, place + 1)];
+  const seen = `${first} and ${second}, are drawn over each other`;
+  return [`${lack}, which places one mark on another, so ${seen}.`];
+}
+
+// What a text asks of a font's features and the font lacks; but for two marks, which need outlines.
+function findingsOfFeatures(text, script, gsub, gpos, bytes) {
   let shapedOnce = null;
   const inFont = () => (shapedOnce ??= glyphsInFont(text));
   const kinds = gsub ? [sentencesOnForms, sentencesOnScript] : [];
   const sentences = kinds.flatMap((sentencesOn) => sentencesOn(text, script, gsub, inFont));
-  return sentences.map((sentence) => finding("font", sentence));
+  const found = sentences.map((sentence) => finding("font", sentence));
+  return [...found, ...findingsOfMarks(text, script, gpos, bytes, inFont)];
 }

@@ -72,6 +72,50 @@ function placed(glyphs) {
 
 const widthOf = (glyphs) => glyphs.reduce((sum, glyph) => sum + glyph.advance, 0);
 
+// From which part of the smaller one's ink on two marks are told to be drawn over each other; and by how many points along each
+// side of a mark its ink is measured.
+const MOST_COVERED = 0.5;
+const MEASURED = 20;
+
+// The points of a placed glyph's ink, in a grid over the box around its outline; and whether a point is in its ink.
+function inkOf(glyph, canvas) {
+  const numbers = [...(outlines.get(glyph.number) ?? "").matchAll(/-?[\d.]+/g)].map(Number);
+  const [x, y] = glyph.at.split(" ").map(Number);
+  const path = new Path2D(outlines.get(glyph.number));
+  const isInked = ([along, down]) => canvas.isPointInPath(path, along - x, down - y);
+  const steps = (axis, from) => {
+    const places = numbers.filter((_, i) => i % 2 === axis);
+    const [least, most] = [Math.min(...places), Math.max(...places)];
+    return Array.from({ length: MEASURED }, (_, i) => from + least + ((most - least) * (i + 0.5)) / MEASURED);
+  };
+  const columns = steps(0, x);
+  const points = steps(1, y).flatMap((down) => columns.map((along) => [along, down])).filter(isInked);
+  return { points, isInked };
+}
+
+// How much of a glyph's ink lies in that of another one.
+function coveredPart(glyph, other, canvas) {
+  const { points } = inkOf(glyph, canvas);
+  const { isInked } = inkOf(other, canvas);
+  return points.length ? points.filter(isInked).length / points.length : 0;
+}
+
+// Tells of a place in a text whether its character's glyph and that of the next one are drawn over each other.
+function coveringMarks(text) {
+  const [script, direction] = ["script", "direction"].map((id) => by(id).value);
+  const glyphs = placed(fonts.ask(["shape", "sengadlit", script, direction, UNMERGED, "0", text].join("\n")) ?? []);
+  loadOutlines(glyphs);
+  const starts = [0];
+  for (const c of text) starts.push(starts.at(-1) + new TextEncoder().encode(c).length);
+  const byStart = Map.groupBy(glyphs, ({ cluster }) => cluster);
+  const canvas = made("canvas").getContext("2d");
+  return (place) => {
+    const [one, other] = [place, place + 1].map((at) => byStart.get(starts[at]) ?? []);
+    if (one.length !== 1 || other.length !== 1) return false;
+    return Math.max(coveredPart(one[0], other[0], canvas), coveredPart(other[0], one[0], canvas)) >= MOST_COVERED;
+  };
+}
+
 // ---- Drawing ----
 
 function loadOutlines(glyphs) {
@@ -144,7 +188,7 @@ function showWithFont() {
     by("word").append(drawn([{ glyphs: sengadlit, others: sengadlit, colour: "sengadlit" }], widthOf(sengadlit)));
     showWidth(text, widthOf(sengadlit));
     showBrowsers(text);
-    if (text === by("text").value) answer(differ);
+    if (text === by("text").value) answer(differ, sentencesOnTwoMarks(text, shown?.script ?? null, fonts.font));
   } catch (error) {
     by("outlines").append(`The program ended: ${error.message}`);
   }

@@ -90,9 +90,11 @@ function showShaped() {
   answer(null);
 }
 
-// Shows the word and whose a difference is: with so many glyphs that HarfRust draws otherwise, or null as long as none is known.
-function answer(differ) {
-  showAnswer(isOfLines() ? "" : by("text").value, findings, shown?.script ?? null, differ);
+// Shows the word and whose a difference is: with so many glyphs that HarfRust draws otherwise, or null as long as none is known,
+// and with the sentences on the font that need its outlines.
+function answer(differ, sentences = []) {
+  const all = [...findings, ...sentences.map((sentence) => finding("font", sentence))];
+  showAnswer(isOfLines() ? "" : by("text").value, all, shown?.script ?? null, differ);
 }
 
 function shapedElement(step) {
