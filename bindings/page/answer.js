@@ -226,9 +226,11 @@ function lookupsOf(bytes, table, script) {
   if (found === undefined) return null;
   const entry = scripts + view.getUint16(found + 4);
   const list = at + view.getUint16(at + 6);
+  // (where a language has the number of the feature that it requires, and those of the others)
+  const placesOf = (language) => [language + 2, ...records(language + 4, 2)];
   const featuresIn = (languages) => {
-    const numbers = languages.filter((offset) => offset !== 0).flatMap((offset) => records(entry + offset + 4, 2).map((place) => view.getUint16(place)));
-    return new Set(numbers.map((number) => tag(list + 2 + 6 * number)));
+    const numbers = languages.filter((offset) => offset !== 0).flatMap((offset) => placesOf(entry + offset).map((place) => view.getUint16(place)));
+    return new Set(numbers.filter((number) => number !== 0xffff).map((number) => tag(list + 2 + 6 * number)));
   };
   const usual = view.getUint16(entry);
   const others = records(entry + 2, 6).map((record) => view.getUint16(record + 4));

@@ -4,6 +4,7 @@ The fonts are Debian's with the tags of some features renamed. Which characters 
 feature, and what it makes of them, is what OpenType's specification of each script says.
 """
 
+import struct
 import unicodedata
 
 BELOW = "keeps its whole form instead of one below the letter before it."
@@ -178,6 +179,18 @@ class FeatureTests:
         none = "It has none of the features \u201cinit\u201d and \u201cmedi\u201d for Arabic"
         assert told(["fina"]) == none, told(["fina"])
         assert self.page.run("lackInWords(null, ['init', 'medi'], 'Arab')") == none
+
+    def test_a_required_feature(self):
+        """The feature that a language requires is among those that the font has: here init."""
+        font = struct.pack(">IH6x4s3I", 0x10000, 1, b"GSUB", 0, 28, 70)
+        font += struct.pack(">5H", 1, 0, 10, 44, 64) + struct.pack(">H4sH", 1, b"arab", 8)
+        font += struct.pack(">2H4sH", 10, 1, b"URD ", 18)
+        # of a language: the number of the required feature, how many others there are, and theirs
+        font += struct.pack(">4H", 0, 1, 1, 0) + struct.pack(">4H", 0, 0xFFFF, 1, 2)
+        font += struct.pack(">H4sH4sH4sH", 3, b"fina", 0, b"init", 0, b"medi", 0)
+        found = f"lookupsOf(Uint8Array.from({list(font)}), 'GSUB', 'Arab')"
+        features = {kind: self.page.run(f"[...{found}.{kind}].sort()") for kind in ("usual", "any")}
+        assert features == {"usual": ["fina", "init"], "any": ["fina", "init", "medi"]}, features
 
     def test_features_that_marks_ask_for(self):
         """A mark without a width is drawn over its letter by its outline, which is no fault. Two
