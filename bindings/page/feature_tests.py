@@ -62,11 +62,16 @@ WORDS = [
         ("\u0995\u09cd\u09af", "\u09af", 3, BESIDE), ("\u09b0\u09cd\u09af", None)]),
     ("Bengali", "half", "half", [
         ("\u0995\u09cd\u09a4", "\u0995", 1, WHOLE), ("\u0995\u09cd\u09b7", None)]),
+    ("Bengali", "akhn", "akhn", [
+        ("\u0995\u09cd\u09b7", "\u09b7", 3, JOINED), ("\u09b8\u09cd\u09a4", None)]),
     ("Gujarati", "half", "half", [
         ("\u0ab8\u0acd\u0aa4", "\u0ab8", 1, WHOLE), ("\u0ab8\u0aa4", None)]),
     # (the feature half makes another sign of that RA)
     ("Gujarati", "rphf", "rphf", [
         ("\u0ab0\u0acd\u0a95", "\u0ab0", 1, REPH), ("\u0a95\u0acd\u0ab0", None)]),
+    ("Gujarati", "rkrf", "rkrf blwf vatu", [("\u0a95\u0acd\u0ab0", None)]),
+    ("Gujarati", "rkrf blwf", "rkrf blwf vatu", [("\u0a95\u0acd\u0ab0", "\u0ab0", 3, BELOW)]),
+    ("Gujarati", "akhn", "akhn", [("\u0a95\u0acd\u0ab7", "\u0ab7", 3, JOINED)]),
     ("Gurmukhi", "blwf", "rkrf blwf vatu", [
         ("\u0a2a\u0a4d\u0a30", "\u0a30", 3, BELOW), ("\u0a2a\u0a4d\u0a39", "\u0a39", 3, BELOW),
         ("\u0a2a\u0a30", None)]),
@@ -117,6 +122,8 @@ WORDS = [
         ("\u0628\u064a\u062a", "\u062a", 3, FINAL), ("\u062f\u0627\u0631", None)]),
     ("Syriac", "fin2", "fin2", [
         ("\u0717\u0718\u0710", "\u0710", 3, ENDS), ("\u0721\u0720\u071f\u0710", None)]),
+    ("Syriac", "fin3", "fin3", [("\u0715\u0710", "\u0710", 2, ENDS), ("\u0720\u0710", None)]),
+    ("Syriac", "med2", "med2", [("\u0712\u0710\u0712", "\u0710", 2, FINAL)]),
     ("Adlam", "init", "init", [("\U0001e906\U0001e935", "\U0001e906", 1, INITIAL)]),
     ("NKo", "medi", "medi", [("\u07de\u07de\u07de", "\u07de", 2, MEDIAL), ("\u07de\u07de", None)]),
     ("Mongolian", "fina", "fina", [("\u182e\u1823\u182f", "\u182f", 3, FINAL)]),
