@@ -37,7 +37,7 @@ by_test : (b : Bool) (at n : ℕ) → nat_lt at n ≡ b → (at < n) ⊎ (n ≤ 
 by_test true at n e = inl (grind (arith, nat_tests, e))
 by_test false at n e = inr (grind (arith, nat_tests, e))
 
-inside_or : (at n : ℕ) → (at < n) ⊎ (n ≤ at)
+pub inside_or : (at n : ℕ) → (at < n) ⊎ (n ≤ at)
 inside_or at n = by_test (nat_lt at n) at n refl
 
 more_times : (most n : ℕ) → most * suc n ≡ most * n + most

@@ -1,5 +1,5 @@
 -- Lookups of contexts leave the pieces of a text side by side.
-use Rattle.std.proofs.Common.{ℕ, suc, ◌+◌, ◌-◌, ◌*◌, ◌^◌, ◌<◌, ◌≤◌, ◌≡◌, ◌==◌, ◌||◌, if◌then◌else◌, Bool, true, false, List, [], ◌∷◌, ◌++◌, length, map, take, drop, refl, sym, ap, subst, ◌∙◌, arith, length-append}
+use Rattle.std.proofs.Common.{ℕ, suc, ◌+◌, ◌*◌, ◌^◌, ◌<◌, ◌≤◌, ◌≡◌, ◌==◌, ◌||◌, if◌then◌else◌, Bool, true, false, List, [], ◌∷◌, ◌++◌, length, map, take, drop, refl, sym, ap, subst, ◌∙◌, arith, length-append}
 use Rattle.std.specs.List.{AllByRecursion, flat_map}
 use Rattle.std.proofs.lemmas.Bool.Decides.{nat_tests}
 use Rattle.std.proofs.lemmas.List.{drop-map, drop_at, get_or-append-add, get_or_append_left, length-map, length-take-le, take-append-drop, take-map, take_at}
@@ -142,7 +142,7 @@ kept_as : {X : Type 0} (f : Glyph → X) → ((g : Glyph) → f (staying_view g)
     → map f new ≡ map f old
 kept_as f shows new old e = sym (shown_kept f shows new) ∙ ap (map f) e ∙ shown_kept f shows old
 
-alike_made : (numbered : Numbering) (gs hs made part : Glyphs) → AreAsIn numbered hs gs → AlikeTo staying_view made gs
+pub alike_made : (numbered : Numbering) (gs hs made part : Glyphs) → AreAsIn numbered hs gs → AlikeTo staying_view made gs
     → AlikeTo staying_view part hs → AlikeTo essence made part → AreAsIn numbered part made
 alike_made numbered gs hs made part same one two alike =
     let cluster : (xs ys : Glyphs) → AlikeTo staying_view xs ys
@@ -196,7 +196,7 @@ part_ready s hs part e none has small len = record {
   len = len;
 }
 
-front_part : (gs before behind hs : Glyphs) → gs ≡ before ++ behind → AlikeTo essence hs before → IsPartOf hs gs 0
+pub front_part : (gs before behind hs : Glyphs) → gs ≡ before ++ behind → AlikeTo essence hs before → IsPartOf hs gs 0
 front_part gs before behind hs parts e =
     let long : length hs ≡ length before = alike_long essence hs before e in
     record {
@@ -207,7 +207,7 @@ front_part gs before behind hs parts e =
           ∙ ap (λ l. essence (glyph_at l i)) (sym parts) ∙ ap (λ j. essence (glyph_at gs j)) z);
     }
 
-back_part : (gs before behind hs is : Glyphs) → gs ≡ before ++ behind → AlikeTo essence is before
+pub back_part : (gs before behind hs is : Glyphs) → gs ≡ before ++ behind → AlikeTo essence is before
     → AlikeTo essence hs behind
     → IsPartOf hs gs (length is)
 back_part gs before behind hs is parts one e =
@@ -259,7 +259,7 @@ pub record IsCutAlike (gs last front back : Glyphs) : Type 0 where
   pub first : AlikeTo staying_view front before
   pub second : AlikeTo staying_view back behind
 
-cut_kept : (gs last front back : Glyphs) → ComesOf gs last → CutWhereClear last front back
+pub cut_kept : (gs last front back : Glyphs) → ComesOf gs last → CutWhereClear last front back
     → IsCutAlike gs last front back
 cut_kept gs last front back comes cut =
     let p = length front in

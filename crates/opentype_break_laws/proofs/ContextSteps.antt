@@ -76,7 +76,7 @@ same_flagged : (bits : ℕ) → bits / 8 ≡ 0 → (g : Glyph) → essence (with
 unfolding with_mask
 same_flagged bits low g = ap (with_mask (essence g)) (without_flags-or g.mask bits low)
 
-unsafe_only : (s e : ℕ) (gs : Glyphs) → s ≤ e → FlagsOnly gs (unsafe_inside s e gs)
+pub unsafe_only : (s e : ℕ) (gs : Glyphs) → s ≤ e → FlagsOnly gs (unsafe_inside s e gs)
 unsafe_only s e gs le = record {
   comes = record {
     kept = map-unsafe_inside staying_view (kept_flagged 3 refl) s e gs le;
@@ -94,11 +94,11 @@ unjoined_only s e gs le = record {
   same = map-unsafe_to_concat_in essence (same_flagged 2 refl) true s e gs le;
 }
 
-only_if : (b : Bool) (old new : Glyphs) → (b ≡ true → FlagsOnly old new) → FlagsOnly old (if b then new else old)
+pub only_if : (b : Bool) (old new : Glyphs) → (b ≡ true → FlagsOnly old new) → FlagsOnly old (if b then new else old)
 only_if true old new is = is refl
 only_if false old new is = only_none old
 
-both_true : (a b : Bool) → (a && b) ≡ true → (a ≡ true) × (b ≡ true)
+pub both_true : (a b : Bool) → (a && b) ≡ true → (a ≡ true) × (b ≡ true)
 both_true true b e = (refl, e)
 both_true false b e = absurd (false≢true e)
 
@@ -114,7 +114,7 @@ unbroken_only old_len start stop gs =
           old_len (length gs)) t).0,
     )))
 
-unjoined_flags : (looked : Stretch) (gs : Glyphs) → FlagsOnly gs (unjoined looked gs)
+pub unjoined_flags : (looked : Stretch) (gs : Glyphs) → FlagsOnly gs (unjoined looked gs)
 unfolding unjoined
 unjoined_flags looked gs =
     let end = min (length gs) looked.stop in
@@ -357,19 +357,24 @@ none_forbids false b e one two = absurd (false≢true one)
 abbrev pub ClearAt : Glyphs → ℕ → Type 0
 ClearAt gs p = 0 < p → p < length gs → IsClear gs p
 
-pub not_inside : (gs last : Glyphs) (start stop p : ℕ) → stop ≤ length gs → stop - start ≤ 255
-    → ComesOf (unbroken (length gs) start stop gs) last → ClearAt last p → start < p → p < stop → ⊥
-not_inside gs last start stop p within few comes clear low high =
-    let made = unbroken (length gs) start stop gs in
-    let is : made ≡ unsafe_inside start stop gs = unbroken_is gs start stop (omega (arith, low, high)) within few in
-    let long : length made ≡ length gs = comes_long gs made (unbroken_only (length gs) start stop gs).comes in
+-- a stretch in which no break is allowed has no place that is clear afterwards
+pub not_unsafe : (gs last : Glyphs) (start stop p : ℕ) → stop ≤ length gs
+    → ComesOf (unsafe_inside start stop gs) last → ClearAt last p → start < p → p < stop → ⊥
+not_unsafe gs last start stop p within comes clear low high =
+    let made = unsafe_inside start stop gs in
+    let inner : start ≤ stop = omega (arith, low, high) in
+    let long : length made ≡ length gs = comes_long gs made (unsafe_only start stop gs inner).comes in
     let last_long : length last ≡ length made = comes_long made last comes in
     let here : p < length last = omega (arith, high, within, long, last_long) in
     let was = added_clear made last comes.added p (omega (arith, low)) here (clear (omega (arith, low)) here) in
-    let inner : start ≤ stop = omega (arith, low, high) in
     let free = clear-places false false (UnsafeToBreak start stop ∷ []) gs p (inner, tt) (omega (
       arith,
       low,
-    )) (omega (arith, high, within))
-    (subst (λ x. IsClear x p) is was) in
+    )) (omega (arith, high, within)) was in
     none_forbids (nat_lt start p) (nat_lt p stop) free (grind (arith, nat_tests, low)) (grind (arith, nat_tests, high))
+
+pub not_inside : (gs last : Glyphs) (start stop p : ℕ) → stop ≤ length gs → stop - start ≤ 255
+    → ComesOf (unbroken (length gs) start stop gs) last → ClearAt last p → start < p → p < stop → ⊥
+not_inside gs last start stop p within few comes clear low high =
+    let is = unbroken_is gs start stop (omega (arith, low, high)) within few in
+    not_unsafe gs last start stop p within (subst (λ made. ComesOf made last) is comes) clear low high

@@ -60,7 +60,7 @@ ready_on s old new comes ready =
       len = ready.len ∙ sym long;
     }
 
-all_index : (P : Glyph → Type 0) (gs : Glyphs) → AllByRecursion P gs → (i : ℕ) → i < length gs → P (glyph_at gs i)
+pub all_index : (P : Glyph → Type 0) (gs : Glyphs) → AllByRecursion P gs → (i : ℕ) → i < length gs → P (glyph_at gs i)
 all_index P [] all i lt = absurd (omega (arith, lt))
 all_index P (g ∷ gs) all zero lt = all.0
 all_index P (g ∷ gs) all (suc i) lt = all_index P gs all.1 i (omega (arith, lt))
