@@ -25,6 +25,7 @@ use Rattle.opentype_break_laws.specs.FontPositions.{AdjustsSingles, FontLookupsL
 use Rattle.opentype_break_laws.specs.PlacedPieces.{CutPlaced, IsPlacedPiece, IsPaired, LeavesPositions, placed_in}
 use Rattle.opentype_break_laws.proofs.FontPieces.{all_by, all_unmapped}
 use Rattle.opentype_break_laws.proofs.LigatureModel.{all_back, all_front}
+use Rattle.opentype_break_laws.proofs.PairPieces.{pairs_leave}
 use Rattle.opentype_break_laws.proofs.PlacedPieces.{MovesEach, ReadsBare, bare, bare_alike, each_placed, same_leaves, step_behind}
 use Rattle.opentype_break_laws.proofs.SingleMoves.{added_if, adjusted, steps_moved, value_for, walk_moved}
 
@@ -144,12 +145,15 @@ nothing_leaves numbered text gdef gpos lookup b is moves front back cut =
 pub lookups_leave : FontLookupsLeavePositions
 lookups_leave numbered text gdef gpos lookup b is moves = elim moves [
   | inl adjusts ↦ singles_leave numbered text gdef gpos lookup b is adjusts
-  | inr nothing ↦ nothing_leaves numbered text gdef gpos lookup b is nothing
+  | inr others ↦ elim others [
+    | inl nothing ↦ nothing_leaves numbered text gdef gpos lookup b is nothing
+    | inr pairs ↦ pairs_leave numbered text gdef gpos lookup b is pairs.0 pairs.1
+  ]
 ]
 
 -- ---- A RUN
 
-as_many : (old new : Buffer) → PositionKeeps old new → length old.positions ≡ length old.glyphs
+pub as_many : (old new : Buffer) → PositionKeeps old new → length old.positions ≡ length old.glyphs
     → length new.positions ≡ length new.glyphs
 as_many old new keeps paired = keeps.positions ∙ paired
     ∙ sym (sym (length-map new.glyphs unplaced) ∙ ap length keeps.glyphs ∙ length-map old.glyphs unplaced)

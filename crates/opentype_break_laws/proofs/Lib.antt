@@ -25,7 +25,13 @@ pub mod OneAsTwo
 pub mod OneContext
 pub mod PlacedPieces
 pub mod SingleMoves
+pub mod PairFinds
+pub mod PairSteps
+pub mod PairWalks
+pub mod PairParts
+pub mod PairPieces
 pub mod FontPositions
+pub mod PairTexts
 pub mod TextPositions
 pub mod TwoAdjustments
 mod OneForOneRows

@@ -1,5 +1,5 @@
 -- A lookup of GPOS that adjusts single glyphs changes each position by its own glyph.
-use Rattle.std.proofs.Common.{ℕ, suc, ◌+◌, ◌%◌, ◌<◌, ◌≡◌, ◌==◌, ◌&&◌, ◌||◌, ◌⊎◌, inl, not, nat_lt, bit_and, if◌then◌else◌, Bool, true, false, List, [], ◌∷◌, ◌++◌, length, set, Option, None, Some, option_map, refl, sym, ap, ◌∙◌, arith, append_assoc, length-append}
+use Rattle.std.proofs.Common.{ℕ, suc, ◌+◌, ◌%◌, ◌<◌, ◌≡◌, ◌==◌, ◌&&◌, ◌||◌, ◌⊎◌, inl, nat_lt, if◌then◌else◌, Bool, true, false, List, [], ◌∷◌, ◌++◌, length, set, Option, None, Some, option_map, refl, sym, ap, ◌∙◌, arith, append_assoc, length-append}
 use Rattle.std.specs.Option.{option_map_or}
 use Rattle.std.proofs.Math.Seq.{get_or-append_seam, set-append_seam}
 use Rattle.std.proofs.lemmas.Bool.Decides.{nat_tests}
@@ -11,10 +11,10 @@ use Rattle.shapers_buffer.specs.declared.buffer.level.Direction.{Direction}
 use Rattle.shapers_position.specs.Widths.{positions_changed}
 use Rattle.opentype_face.specs.Bytes.{table_at, u16_in}
 use Rattle.opentype_face.specs.Firsts.{first_from}
-use Rattle.opentype_face.specs.Lookups.{mark_set_in, subtable_in, subtables_in, type_in}
+use Rattle.opentype_face.specs.Lookups.{subtable_in, subtables_in, type_in}
 use Rattle.opentype_layout.specs.Looking.{nothing, unjoined}
 use Rattle.opentype_layout.specs.Rules.{Found}
-use Rattle.opentype_layout.specs.Sight.{flag_in, ignores, sight_of_input}
+use Rattle.opentype_layout.specs.Sight.{sight_of_input}
 use Rattle.opentype_layout.specs.Text.{glyph_at}
 use Rattle.opentype_layout.proofs.Lookings.{all_none, kept_if, unflagged}
 use Rattle.opentype_gpos.specs.Along.{applied_along, passed, position_stepped, stepped_by}
@@ -30,6 +30,7 @@ use Rattle.opentype_gpos.specs.declared.pass.Sights.{Sights}
 use Rattle.opentype_gpos.specs.declared.values.Value.{Value}
 use Rattle.opentype_gpos.proofs.Passing.{EndsAs, ends_as}
 use Rattle.opentype_gpos.proofs.Walks.{along_none, along_step}
+use Rattle.opentype_break_laws.specs.Pairs.{sees}
 use Rattle.opentype_break_laws.proofs.ByGlyph.{first_mapped}
 
 -- ---- ALONG A TEXT
@@ -110,7 +111,7 @@ by_one : (gdef : List ℕ) (sights : Sights) (bytes : List ℕ) (gs : Glyphs) (a
 unfolding one_move
 by_one gdef sights bytes gs at = refl
 
-moves_one : (s : Setting) (sights : Sights) (table : List ℕ) (gs : Glyphs) (at i kind : ℕ) → type_in 9 table i ≡ kind
+pub moves_one : (s : Setting) (sights : Sights) (table : List ℕ) (gs : Glyphs) (at i kind : ℕ) → type_in 9 table i ≡ kind
     → ((kind == 7) || (kind == 8)) ≡ false → nth_came s sights table gs at i
     ≡ option_map inl (one_move s.gdef sights.input kind (subtable_in 9 table i) gs at)
 unfolding nth_came
@@ -176,11 +177,6 @@ adds_if s gs ps at true None lt =
 adds_if s gs ps at false found lt =
     let progress : Positions → Progress = λ x. record { glyphs = gs; positions = x; next = at + 1 } in
     ap progress (sym (set-get_or ps at default_position))
-
--- whether a lookup for a mask sees a glyph
-abbrev pub sees : List ℕ → List ℕ → ℕ → Glyph → Bool
-sees gdef table mask g =
-    not (bit_and g.mask mask == 0) && not (ignores gdef (flag_in gdef table) (mark_set_in table) g)
 
 -- a position as the lookup leaves it
 abbrev pub adjusted : List ℕ → List ℕ → ℕ → Direction → Glyph → GlyphPosition → GlyphPosition

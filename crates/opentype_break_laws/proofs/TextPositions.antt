@@ -27,14 +27,17 @@ use Rattle.opentype_gpos.specs.Finished.{chain_followed, drawn_place, finished, 
 use Rattle.opentype_gpos.specs.Kerned.{PlacedText}
 use Rattle.opentype_gpos.specs.Moved.{Positions, is_vertical, position_at, with_value}
 use Rattle.opentype_gpos.specs.declared.values.Value.{Value}
-use Rattle.opentype_font.specs.Lookups.{is_gdef_mark, positioned_by, use_for}
-use Rattle.opentype_font.specs.Proved.LookupLaws.{substituting_keeps}
+use Rattle.opentype_font.specs.Lookups.{application_for, is_gdef_mark, positioned_by, use_for}
+use Rattle.opentype_font.specs.Proved.LookupLaws.{positioning_keeps, substituting_keeps}
 use Rattle.opentype_break_laws.specs.FontPieces.{EachAt}
 use Rattle.opentype_break_laws.specs.FontPositions.{FontPositionsBreak, FontStagesBreak, MovesByPieces}
+use Rattle.opentype_break_laws.specs.Pairs.{pair_seen}
 use Rattle.opentype_break_laws.specs.PlacedPieces.{BreaksWherePlaced, CutPlaced, IsPlacedPiece, IsPaired, LeavesPositions, placed_in}
 use Rattle.opentype_break_laws.proofs.FontPieces.{runs_leave as substitutions_leave}
-use Rattle.opentype_break_laws.proofs.FontPositions.{runs_leave, singles_move, unmoved}
+use Rattle.opentype_break_laws.proofs.FontPositions.{runs_leave, singles_move, still_placed, unmoved}
 use Rattle.opentype_break_laws.proofs.LigatureModel.{all_back, all_front}
+use Rattle.opentype_break_laws.proofs.PairPieces.{pairs_made}
+use Rattle.opentype_break_laws.proofs.PairWalks.{all_along}
 use Rattle.opentype_break_laws.proofs.PlacedPieces.{MovesEach, bare, bare_alike, changed_length, each_placed, first_same, same_leaves, second_same, then_placed}
 use Rattle.opentype_break_laws.proofs.SingleMoves.{added_if, adjusted}
 
@@ -280,16 +283,26 @@ added_keeps d true None p = refl
 added_keeps d false found p = refl
 
 lookup_ready : (text : Buffer) (gdef gpos : List ℕ) (lookup : StageLookup) (b : Buffer) → IsReady text b
-    → MovesByPieces gpos lookup b → IsReady text (positioned_by gdef gpos lookup b)
+    → MovesByPieces gdef gpos lookup b → IsReady text (positioned_by gdef gpos lookup b)
 lookup_ready text gdef gpos lookup b ready moves = elim moves [
   | inl adjusts ↦ ready_each text (adjusted gdef (lookup_in gpos lookup.index) lookup.mask)
       (positioned_by gdef gpos lookup)
       (singles_move gdef gpos lookup adjusts) (λ d g p. added_keeps d _ _ p) b ready
-  | inr nothing ↦ subst (IsReady text) (sym (unmoved gdef gpos lookup b ready.placed.paired nothing.passed)) ready
+  | inr others ↦ elim others [
+    | inl nothing ↦ subst (IsReady text) (sym (unmoved gdef gpos lookup b ready.placed.paired nothing.passed)) ready
+    | inr pairs ↦ record {
+      placed = still_placed text b (positioned_by gdef gpos lookup b)
+          (positioning_keeps gdef gpos lookup.index (application_for lookup) b) ready.placed;
+      free = subst AreFree (sym (pairs_made gdef gpos lookup b pairs.0)) (all_along (λ p. p.var ≡ 0)
+          (record { each = λ vertical v p e. value_keeps vertical v p ∙ e }) (length b.glyphs) b.direction
+          (pair_seen gdef (lookup_in gpos lookup.index) (application_for lookup) b.glyphs) (length b.glyphs) b.positions 0
+          ready.free);
+    }
+  ]
 ]
 
 run_ready : (text : Buffer) (gdef gpos : List ℕ) (list : List StageLookup) (b : Buffer) → IsReady text b
-    → EachAt (MovesByPieces gpos) (positioned_by gdef gpos) list b
+    → EachAt (MovesByPieces gdef gpos) (positioned_by gdef gpos) list b
     → IsReady text (looked_up (positioned_by gdef gpos) list b)
 run_ready text gdef gpos [] b ready each = ready
 run_ready text gdef gpos (x ∷ xs) b ready each = run_ready text gdef gpos xs (positioned_by gdef gpos x b)
@@ -313,7 +326,7 @@ texts_break numbered text p gdef gpos b is so each =
     let two = spaces.ready _ one in
     let three = early.ready _ two in
     let looked = text_advanced p b in
-    let own = subst (λ f. EachAt (MovesByPieces gpos) f list looked) is.lookups each in
+    let own = subst (λ f. EachAt (MovesByPieces gdef gpos) f list looked) is.lookups each in
     let four = subst (λ f. IsReady text (looked_up f list looked)) (sym is.lookups)
     (run_ready text gdef gpos list looked three own) in
     let five = late.ready _ four in

@@ -1,5 +1,5 @@
 -- What a font's lookups of GPOS leave of the positions of a text's pieces.
-use Rattle.std.specs.Prelude.{ℕ, ◌%◌, ◌<◌, ◌≡◌, ◌⊎◌, true, List}
+use Rattle.std.specs.Prelude.{ℕ, ◌%◌, ◌<◌, ◌≡◌, ◌⊎◌, true, List, length}
 use Rattle.std.specs.List.{AllByRecursion}
 use Rattle.shapers_buffer.specs.Buffer.{Buffer}
 use Rattle.shapers_buffer.specs.Glyphs.{Glyphs}
@@ -16,6 +16,7 @@ use Rattle.opentype_layout.specs.Starts.{IsPassed}
 use Rattle.opentype_gpos.specs.Finished.{finished}
 use Rattle.opentype_font.specs.Lookups.{is_gdef_mark, positioned_by, substituted_by}
 use Rattle.opentype_break_laws.specs.FontPieces.{AtLookups, EachAt, GoesByPieces}
+use Rattle.opentype_break_laws.specs.Pairs.{IsShortText, MovesPairs, TakesPairs}
 use Rattle.opentype_break_laws.specs.PlacedPieces.{BreaksWherePlaced, IsPlacedPiece, IsPaired, LeavesPositions, placed_in}
 
 -- A lookup of a plan adjusts single glyphs, by a font's GPOS: all subtables of its table are of
@@ -31,28 +32,37 @@ pub record MovesNothing (gpos : List ℕ) (lookup : StageLookup) (b : Buffer) : 
   pub flagless : lookup.mask % 8 ≡ 0
   pub passed : AllByRecursion (IsPassed true (lookup_in gpos lookup.index) lookup.mask) b.glyphs
 
--- a lookup that does one of these in a text
-abbrev pub MovesByPieces : List ℕ → StageLookup → Buffer → Type 0
-MovesByPieces gpos lookup b = AdjustsSingles gpos lookup ⊎ MovesNothing gpos lookup b
+-- a lookup that does one of these in a text, or moves its pairs
+abbrev pub MovesByPieces : List ℕ → List ℕ → StageLookup → Buffer → Type 0
+MovesByPieces gdef gpos lookup b = AdjustsSingles gpos lookup ⊎ (MovesNothing gpos lookup b
+    ⊎ (MovesPairs gpos lookup × TakesPairs gdef gpos lookup b))
 
 -- Such a lookup leaves the positions of the text's pieces side by side.
 abbrev pub FontLookupsLeavePositions : Type 0
 FontLookupsLeavePositions = (numbered : Numbering) (text : Buffer) (gdef gpos : List ℕ)
-    (lookup : StageLookup) (b : Buffer) → IsPaired text b → MovesByPieces gpos lookup b →
+    (lookup : StageLookup) (b : Buffer) → IsPaired text b → MovesByPieces gdef gpos lookup b →
     LeavesPositions numbered text (positioned_by gdef gpos lookup) b
 
 -- so do lookups one after another, each such at the text that those before it made
 abbrev pub FontRunsLeavePositions : Type 0
 FontRunsLeavePositions = (numbered : Numbering) (text : Buffer) (gdef gpos : List ℕ)
     (list : List StageLookup) (b : Buffer) → IsPaired text b →
-    EachAt (MovesByPieces gpos) (positioned_by gdef gpos) list b →
+    EachAt (MovesByPieces gdef gpos) (positioned_by gdef gpos) list b →
     LeavesPositions numbered text (looked_up (positioned_by gdef gpos) list) b
 
 -- in every text, where the plan has no lookups but those that adjust single glyphs
 abbrev pub SinglesMoveByPieces : Type 0
 SinglesMoveByPieces = (gdef gpos : List ℕ) (list : List StageLookup) (b : Buffer) →
     AllByRecursion (AdjustsSingles gpos) list →
-    EachAt (MovesByPieces gpos) (positioned_by gdef gpos) list b
+    EachAt (MovesByPieces gdef gpos) (positioned_by gdef gpos) list b
+
+-- and in every short text without ignorable glyphs, where it has none but those and lookups of
+-- pairs
+abbrev pub ShortTextsMoveByPieces : Type 0
+ShortTextsMoveByPieces = (gdef gpos : List ℕ) (list : List StageLookup) (b : Buffer) →
+    AllByRecursion (λ lookup. AdjustsSingles gpos lookup ⊎ MovesPairs gpos lookup) list →
+    length b.positions ≡ length b.glyphs → IsShortText b →
+    EachAt (MovesByPieces gdef gpos) (positioned_by gdef gpos) list b
 
 -- a text is positioned by a font's lookups, and marks are marks by its GDEF
 pub record IsPlacedByFont (p : Positioning) (gdef gpos : List ℕ) : Type 0 where
@@ -71,7 +81,7 @@ abbrev pub FontPositionsBreak : Type 0
 FontPositionsBreak = (numbered : Numbering) (text : Buffer) (p : Positioning)
     (gdef gpos : List ℕ) (b : Buffer) → IsPlacedByFont p gdef gpos →
     b.direction ≡ text.direction → let list = lookups_if p.applies_gpos p.list in
-    EachAt (MovesByPieces gpos) p.positioned list (text_advanced p b) →
+    EachAt (MovesByPieces gdef gpos) p.positioned list (text_advanced p b) →
     BreaksWherePlaced Glyphs CutWhereClear (λ piece made. (one : Buffer) →
     IsPiece numbered text piece one → IsPlacedPiece numbered text made (text_placed p one)) b.glyphs
     (placed_in (text_placed p b))
@@ -87,7 +97,7 @@ FontStagesBreak = (numbered : Numbering) (text : Buffer) (gdef gsub gpos : List 
     AtLookups (GoesByPieces numbered text gsub) r ss old new run →
     AtPauses (PauseLeaves numbered text r.plan r.font) r ss old new run →
     let list = lookups_if p.applies_gpos p.list in
-    EachAt (MovesByPieces gpos) p.positioned list (text_advanced p new) →
+    EachAt (MovesByPieces gdef gpos) p.positioned list (text_advanced p new) →
     BreaksWherePlaced Glyphs CutWhereClear (λ piece made. (one two : Buffer) →
     IsPiece numbered text piece one → StagesRun r ss one two →
     IsPlacedPiece numbered text made (text_placed p two)) old.glyphs (placed_in (text_placed p new))

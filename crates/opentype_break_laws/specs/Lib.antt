@@ -9,5 +9,6 @@ pub mod NormalizedText
 pub mod OneAsTwo
 pub mod OneContext
 pub mod PlacedPieces
+pub mod Pairs
 pub mod FontPositions
 pub mod TwoAdjustments

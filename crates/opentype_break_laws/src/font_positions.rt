@@ -1,17 +1,21 @@
 //! What the lookups of a font's GPOS leave of the positions of a text's pieces: laws.
-ghost use Rattle.opentype_break_laws.specs.FontPositions.{FontLookupsLeavePositions, FontPositionsBreak, FontRunsLeavePositions, FontStagesBreak, SinglesMoveByPieces};
+ghost use Rattle.opentype_break_laws.specs.FontPositions.{FontLookupsLeavePositions, FontPositionsBreak, FontRunsLeavePositions, FontStagesBreak, ShortTextsMoveByPieces, SinglesMoveByPieces};
+ghost use Rattle.opentype_break_laws.specs.Pairs.{ShortTextsTakePairs};
 
 use shapers_editing::pipeline_breaks_law;
 
 /// A lookup of a font that adjusts single glyphs (type 1), and a lookup of any type that begins at no
-/// glyph of the text, leaves the positions of the text's pieces side by side. So do such lookups one
-/// after another; and a text that is positioned by them may be broken at every clear place, from its
-/// advances on and up to attachments, before it is turned to its drawing order. So may one that
-/// lookups of the font substitute in stages before.
+/// glyph of the text, leaves the positions of the text's pieces side by side. One of pairs (type 2)
+/// does so in texts that take pairs, as each text does of at most 255 glyphs of which none is
+/// ignorable. So do such lookups one after another; and a text that is positioned by them may be
+/// broken at every clear place, from its advances on and up to attachments, before it is turned to
+/// its drawing order. So may one that lookups of the font substitute in stages before.
 pub fn font_positions_law()
     ensures lookups { FontLookupsLeavePositions }
     ensures runs { FontRunsLeavePositions }
     ensures singles { SinglesMoveByPieces }
+    ensures pairs { ShortTextsTakePairs }
+    ensures short { ShortTextsMoveByPieces }
     ensures texts { FontPositionsBreak }
     ensures stages { FontStagesBreak }
 {

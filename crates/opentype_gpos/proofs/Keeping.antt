@@ -49,9 +49,9 @@ flag is_on s last gs = flag_if
     (λ t. grind (arith, common_steps, t))
 
 -- ---- positions
-added : (d : Direction) (value : Value) (at : ℕ) (ps : Positions) → length (value_added d value at ps) ≡ length ps
+pub added_long : (d : Direction) (value : Value) (at : ℕ) (ps : Positions) → length (value_added d value at ps) ≡ length ps
 unfolding value_added
-added d value at ps = grind (arith, common_steps)
+added_long d value at ps = grind (arith, common_steps)
 
 choose : (test : Bool) (gs : Glyphs) (ps : Positions) (a b : Progress) → Keeps gs ps a → Keeps gs ps b →
     Keeps gs ps (if test then a else b)
@@ -63,12 +63,12 @@ pair : (d : Direction) (it : PairMove) (at : ℕ) (gs : Glyphs) (ps : Positions)
 unfolding pair_moved
 pair d it at gs ps = choose it.has_second gs ps _ _ (record {
   glyphs = flag true at (it.second + 1) gs;
-  positions = added d it.second_value it.second (value_added d it.first_value at ps)
-      ∙ added d it.first_value at ps;
+  positions = added_long d it.second_value it.second (value_added d it.first_value at ps)
+      ∙ added_long d it.first_value at ps;
 }) (record {
   glyphs = flag _ at it.second gs;
-  positions = added d it.second_value it.second (value_added d it.first_value at ps)
-      ∙ added d it.first_value at ps;
+  positions = added_long d it.second_value it.second (value_added d it.first_value at ps)
+      ∙ added_long d it.first_value at ps;
 })
 
 mark : (it : MarkMove) (at : ℕ) (gs : Glyphs) (ps : Positions) → Keeps gs ps (mark_moved it at gs ps)
@@ -142,7 +142,7 @@ cursive d it at gs ps = record { glyphs = flag true it.before at gs; positions =
 
 pub move : (d : Direction) (it : Move) (at : ℕ) (gs : Glyphs) (ps : Positions) → Keeps gs ps (moved d it at gs ps)
 unfolding moved
-move d (Adds value) at gs ps = record { glyphs = refl; positions = added d value at ps }
+move d (Adds value) at gs ps = record { glyphs = refl; positions = added_long d value at ps }
 move d (Kerns it) at gs ps = choose (nat_lt it.second (length gs)) gs ps _ _
     (pair d it at gs ps) (nothing (at + 1) gs ps)
 move d (Attaches it) at gs ps = mark it at gs ps

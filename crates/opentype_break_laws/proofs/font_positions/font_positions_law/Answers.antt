@@ -1,4 +1,5 @@
 use Rattle.opentype_break_laws.proofs.FontPositions.{lookups_leave, runs_leave, singles_go}
+use Rattle.opentype_break_laws.proofs.PairTexts.{short_go, short_texts}
 use Rattle.opentype_break_laws.proofs.TextPositions.{staged_break, texts_break}
 use Rattle.opentype_break_laws.proofs.font_positions.font_positions_law.Goals as goal
 
@@ -10,6 +11,12 @@ returns-clause-runs c = runs_leave
 
 pub returns-clause-singles : goal.returns-clause-singles
 returns-clause-singles c = singles_go
+
+pub returns-clause-pairs : goal.returns-clause-pairs
+returns-clause-pairs c = short_texts
+
+pub returns-clause-short : goal.returns-clause-short
+returns-clause-short c = short_go
 
 pub returns-clause-texts : goal.returns-clause-texts
 returns-clause-texts c = texts_break
