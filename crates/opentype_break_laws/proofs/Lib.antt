@@ -34,6 +34,7 @@ pub mod FontPositions
 pub mod PairTexts
 pub mod TextPositions
 pub mod TwoAdjustments
+pub mod TwoPairs
 mod OneForOneRows
 mod LigatureFontRows
 mod SequenceRows

@@ -12,3 +12,4 @@ pub mod PlacedPieces
 pub mod Pairs
 pub mod FontPositions
 pub mod TwoAdjustments
+pub mod TwoPairs

@@ -10,6 +10,7 @@ mod normalized_text;
 mod one_as_two;
 mod one_context;
 mod two_adjustments;
+mod two_pairs;
 mod two_singles;
 
 pub use font_positions::font_positions_law;
@@ -18,6 +19,7 @@ pub use one_as_two::substitute_sequence;
 pub use one_context::substitute_in_context;
 use shapers_editing::pipeline_breaks_law;
 pub use two_adjustments::adjust_glyphs;
+pub use two_pairs::kern_glyphs;
 pub use two_singles::substitute_two;
 
 /// A lookup of a font whose subtables put one glyph for one (types 1 and 3, with no alternate picked
