@@ -40,6 +40,7 @@ mod LigatureFontRows
 mod SequenceRows
 mod ContextRows
 mod PositionRows
+mod PairRows
 mod UnflaggedRows
 mod ContextTextRows
 mod OneContextRows

@@ -1,35 +1,42 @@
 -- Fonts whose pairs, marks and cursive lines aren't flagged in full, as in HarfBuzz: there the positions of a text's
 -- pieces aren't left side by side.
-use Rattle.std.proofs.Common.{ℕ, ◌+◌, ◌≡◌, true, List, [], ◌∷◌, ◌++◌, length, replicate, refl, sym, ap, ◌∙◌, subst, arith}
+use Rattle.std.proofs.Common.{List, Option, Some, [], ap, arith, false, length, min, negsuc, refl, replicate, subst, sym, true, ℕ, ℤ, ◌++◌, ◌+ℤ◌, ◌-◌, ◌^◌, ◌∙◌, ◌∷◌, ◌≡◌, ◌≤◌}
 use Rattle.std.specs.Prelude.{pos, unsigned_abs}
+use Rattle.std.proofs.lemmas.Bool.{false≢true}
+use Rattle.std.proofs.lemmas.Int.{ints}
 use Rattle.std.proofs.lemmas.List.{length-map}
+use Rattle.std.specs.Int.{saturate_to_bits}
 use Rattle.shapers_buffer.specs.Buffer.{Buffer, new_buffer}
 use Rattle.shapers_buffer.specs.Glyph.{default_glyph, default_position}
 use Rattle.shapers_buffer.specs.Glyphs.{Glyph, Glyphs}
 use Rattle.shapers_buffer.specs.declared.buffer.glyph.GlyphPosition.{GlyphPosition}
 use Rattle.shapers_buffer.specs.declared.buffer.level.BufferClusterLevel.TheVariants.{MonotoneCharacters}
 use Rattle.shapers_buffer.specs.declared.buffer.lig_props.LigProps.{LigProps}
+use Rattle.shapers_editing.specs.PipelineBreaks.{Numbering}
 use Rattle.opentype_face.specs.Firsts.{first_from}
+use Rattle.opentype_face.specs.Lookups.{lookup_in}
 use Rattle.opentype_face.specs.Ranges.{bisect}
-use Rattle.opentype_layout.specs.Sight.{flag_in, ignores, may_pass, next_from, seen_as, sight_of_context, sight_of_input}
+use Rattle.opentype_font.specs.Lookups.{application_for, positioned_by}
+use Rattle.opentype_gpos.proofs.Keeping.{position_keeps}
 use Rattle.opentype_gpos.specs.Along.{applied_along, position_stepped, positioned}
 use Rattle.opentype_gpos.specs.Anchors.{joint_in, joint_point}
 use Rattle.opentype_gpos.specs.Coming.{came_in, nth_came, sights_in}
 use Rattle.opentype_gpos.specs.Finished.{target_in}
-use Rattle.opentype_gpos.specs.Joined.{aligned, begun, beginning_at, between, cursive_joined, cursive_linked, cursive_moved, ended, ending_at, hung, line_var, next_in_line, reversed, separated, with_across}
+use Rattle.opentype_gpos.specs.Joined.{aligned, beginning_at, begun, between, cursive_joined, cursive_linked, cursive_moved, ended, ending_at, hung, line_var, next_in_line, reversed, separated, with_across}
 use Rattle.opentype_gpos.specs.Kerned.{PlacedText}
 use Rattle.opentype_gpos.specs.Laws.{without_its_flags}
 use Rattle.opentype_gpos.specs.Looked.{tried}
 use Rattle.opentype_gpos.specs.Making.{moved}
-use Rattle.opentype_gpos.specs.Moved.{Positions, does_move, flagged_up_to, mark_moved, pair_moved, position_at, value_added, with_mark_move, with_value}
+use Rattle.opentype_gpos.specs.Moved.{Positions, does_move, flagged_up_to, mark_moved, pair_moved, plus, position_at, value_added, with_mark_move, with_value}
 use Rattle.opentype_gpos.specs.Moves.{attached_by, base_move, cursive_move, joined_from, joined_with, one_move, pair_move, pair_with}
 use Rattle.opentype_gpos.specs.Nearby.{any_seen, base_behind, base_glyph_before, carries_on, is_base_at, is_later_multiple, previous_any}
-use Rattle.opentype_gpos.proofs.Keeping.{position_keeps}
-use Rattle.opentype_font.specs.Lookups.{application_for, positioned_by}
-use Rattle.shapers_editing.specs.PipelineBreaks.{Numbering}
+use Rattle.opentype_gpos.specs.declared.moves.PairMove.{PairMove}
+use Rattle.opentype_gpos.specs.declared.values.Value.{Value}
+use Rattle.opentype_layout.specs.Sight.{flag_in, ignores, may_pass, next_from, seen_as, sight_of_context, sight_of_input}
+use Rattle.opentype_break_laws.proofs.PlacedPieces.{bare, bare_alike, first_same, second_same}
+use Rattle.opentype_break_laws.specs.Pairs.{TakesPairs, pair_seen}
 use Rattle.opentype_break_laws.specs.PlacedPieces.{CutPlaced, IsPlacedPiece, LeavesPositions, placed_in}
 use Rattle.opentype_break_laws.specs.TwoSingles.{first_lookup}
-use Rattle.opentype_break_laws.proofs.PlacedPieces.{bare, bare_alike, second_same, first_same}
 
 -- GPOS with one lookup of a type, with a flag and subtables behind their offsets
 abbrev positioning : ℕ → ℕ → List ℕ → List ℕ
@@ -157,6 +164,76 @@ row_idle = not_placed idle_pair first_of_three last_of_three first_of_three last
       paired = refl;
     })) (λ first second. absurd (omega (arith, sym idle_alone ∙ ap second_width second)))
 
+-- Such a text doesn't take its pairs: inside of the one of the 1, the 2 begins one that holds together.
+no_value : Value
+no_value = record { x_placement = pos 0; y_placement = pos 0; x_advance = pos 0; y_advance = pos 0 }
+
+outer_pair : PairMove
+outer_pair = record { second = 2; first_value = no_value; second_value = no_value; has_second = false }
+
+inner_pair : PairMove
+inner_pair = record {
+  second = 2;
+  first_value = no_value;
+  second_value = record no_value { x_advance = negsuc 9 };
+  has_second = true;
+}
+
+abbrev idle_found : ℕ → Option PairMove
+idle_found at = pair_seen [] (lookup_in idle_pair 0) (application_for first_lookup)
+    (joined first_of_three last_of_three).glyphs at
+
+outer_found : idle_found 0 ≡ Some outer_pair
+unfolding pair_seen first_from bisect sight_of_input flag_in ignores next_from any_seen seen_as may_pass outer_pair no_value
+outer_found = refl
+
+inner_found : idle_found 1 ≡ Some inner_pair
+unfolding pair_seen first_from bisect sight_of_input flag_in ignores next_from any_seen seen_as may_pass inner_pair no_value
+inner_found = refl
+
+idle_not_taken : TakesPairs [] idle_pair first_lookup (text_of (joined first_of_three last_of_three)) → ⊥
+unfolding does_move outer_pair inner_pair no_value
+idle_not_taken takes = false≢true
+    (sym (takes.idle 0 1 outer_pair inner_pair outer_found refl (omega arith) (omega arith) inner_found))
+
+-- ---- AN ADVANCE OF MORE THAN 32 BITS, which no buffer has, becomes the greatest of 32 bits by such a pair
+
+abbrev first_alone : ℤ → PlacedText
+first_alone advance = record { glyphs = glyph 1 0 ∷ []; positions = record default_position { x_advance = advance } ∷ [] }
+
+abbrev last_alone : PlacedText
+last_alone = record { glyphs = glyph 3 1 ∷ []; positions = wide 100 ∷ [] }
+
+great_moves : (n : ℕ) → placed_in (made idle_pair (joined (first_alone (pos n)) last_alone))
+    ≡ joined (first_alone (plus (pos n) (pos 0))) last_alone
+unfolding positioned applied_along position_stepped sights_in sight_of_input sight_of_context flag_in ignores tried came_in nth_came first_from bisect one_move pair_move pair_with next_from any_seen seen_as may_pass moved pair_moved value_added with_value does_move flagged_up_to
+great_moves n = refl
+
+great_stays : (n : ℕ) → first_width (made idle_pair (first_alone (pos n))).positions ≡ n
+unfolding positioned applied_along position_stepped sights_in sight_of_input sight_of_context flag_in ignores tried came_in nth_came first_from bisect one_move pair_move next_from any_seen seen_as may_pass
+great_stays n = refl
+
+not_so_great : (n : ℕ) → 2 ^ 31 ≤ n → n ≡ unsigned_abs (plus (pos n) (pos 0)) → ⊥
+not_so_great n le e =
+    let none : pos n +ℤ pos 0 ≡ pos n = omega (arith, ints) in
+    let less : n ≡ min n (2 ^ 31 - 1) = e ∙ ap (λ z. unsigned_abs (saturate_to_bits 31 z)) none in
+    absurd (omega (arith, le, less))
+
+row_numbers : (n : ℕ) → 2 ^ 31 ≤ n → (numbered : Numbering) → ((list : List LigProps) → numbered list list ≡ true)
+    → LeavesPositions numbered (text_of (joined (first_alone (pos n)) last_alone)) (positioned_by [] idle_pair first_lookup)
+    (text_of (joined (first_alone (pos n)) last_alone)) → ⊥
+row_numbers n le = not_placed idle_pair (first_alone (pos n)) last_alone (first_alone (plus (pos n) (pos 0))) last_alone refl
+    refl (subst (λ x. CutPlaced x (first_alone (plus (pos n) (pos 0))) last_alone) (sym (great_moves n)) (record {
+      glyphs = record {
+        parts = refl;
+        some_in_front = omega arith;
+        some_behind = omega arith;
+        clear = record { differ = λ e. absurd (omega (arith, e)); unflagged = refl };
+      };
+      positions = refl;
+      paired = refl;
+    })) (λ first second. not_so_great n le (sym (great_stays n) ∙ ap first_width first))
+
 -- ---- STRETCHES OF 256 GLYPHS aren't flagged: two glyphs and 254 marks between them
 
 abbrev marks_between : PlacedText
@@ -199,6 +276,24 @@ row_pair = not_placed far_pair (with_marks 100) last_of_pair (with_marks 90) las
       positions = refl;
       paired = refl;
     })) (λ first second. absurd (omega (arith, sym first_stays ∙ ap first_width first)))
+
+-- such a text doesn't take its pair, which spans 256 glyphs
+far_values : PairMove
+far_values = record {
+  second = 255;
+  first_value = record { x_placement = pos 0; y_placement = pos 0; x_advance = negsuc 9; y_advance = pos 0 };
+  second_value = record { x_placement = pos 0; y_placement = pos 0; x_advance = pos 0; y_advance = pos 0 };
+  has_second = false;
+}
+
+far_found : pair_seen [] (lookup_in far_pair 0) (application_for first_lookup)
+    (joined (with_marks 100) last_of_pair).glyphs 0 ≡ Some far_values
+unfolding pair_seen first_from bisect sight_of_input flag_in ignores next_from any_seen seen_as may_pass far_values
+far_found = refl
+
+far_not_taken : TakesPairs [] far_pair first_lookup (text_of (joined (with_marks 100) last_of_pair)) → ⊥
+unfolding does_move far_values
+far_not_taken takes = let few : 256 - 0 ≤ 255 = takes.short 0 far_values far_found refl in absurd (omega (arith, few))
 
 -- type 4: a mark 9 comes upon a base 1, and the other marks are none of its
 abbrev far_mark : List ℕ
