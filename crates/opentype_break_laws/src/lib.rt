@@ -1,4 +1,4 @@
-//! What the lookups of a font leave of a text's pieces: laws, and four fonts that they are read for.
+//! What the lookups of a font leave of a text's pieces: laws, and fonts that they are read for.
 #![tactic(auto)]
 
 ghost use Rattle.opentype_break_laws.specs.FontPieces.{FontLookupsLeavePieces, FontRunsLeavePieces, FontTextsBreak, OneForOneGoesByPieces};
