@@ -32,6 +32,9 @@ pub mod PairParts
 pub mod PairPieces
 pub mod FontPositions
 pub mod PairTexts
+pub mod MarkFinds
+pub mod MarkPieces
+pub mod MarkTexts
 pub mod TextPositions
 pub mod TwoAdjustments
 pub mod TwoPairs

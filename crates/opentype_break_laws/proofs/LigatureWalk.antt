@@ -179,7 +179,7 @@ component_alike : (mask byte lig : ℕ → ℕ) → ShowsNumbers lig → (g h : 
 component_alike mask byte lig shows g h e = sym (component_seen lig shows g.lig_props.0)
     ∙ ap (λ (x : Glyph). component x.lig_props) e ∙ component_seen lig shows h.lig_props.0
 
-free_at : (gs : Glyphs) (i : ℕ) → HasNoComponents gs → component (glyph_at gs i).lig_props ≡ 0
+pub free_at : (gs : Glyphs) (i : ℕ) → HasNoComponents gs → component (glyph_at gs i).lig_props ≡ 0
 free_at [] i all = refl
 free_at (g ∷ gs) zero all = all.0
 free_at (g ∷ gs) (suc i) all = free_at gs i all.1

@@ -293,13 +293,13 @@ pub record IsOfFeatures (how : Application) : Type 0 where
   pub of_gpos : how.of_gpos ≡ true
   pub flagless : (m : ℕ) → bit_and (without_flags m) how.mask ≡ bit_and m how.mask
 
-seen_by_bits : List ℕ → Sight → ℕ → Bool → Glyph → Option Bool
+unfoldable pub seen_by_bits : List ℕ → Sight → ℕ → Bool → Glyph → Option Bool
 seen_by_bits gdef sight held here g =
     if ignores gdef sight.flag sight.set g then None
     else (if not (may_pass sight g) && not (held == 0) && here then Some true
     else (if may_pass sight g then None else Some false))
 
-anywhere : (how : Application) → how.of_gpos ≡ true → syllable_in how 0 ≡ 0
+pub anywhere : (how : Application) → how.of_gpos ≡ true → syllable_in how 0 ≡ 0
 anywhere how e = rw e refl
 
 any_essence : (gdef table : List ℕ) (how : Application) (g : Glyph) → IsOfFeatures how
@@ -332,7 +332,7 @@ sees_alike gdef table how g h is e = sym (sees_essence gdef table how g is)
 pub number_alike : (g h : Glyph) → essence g ≡ essence h → g.glyph_id % 65536 ≡ h.glyph_id % 65536
 number_alike g h e = ap (λ (x : Glyph). x.glyph_id % 65536) e
 
-then_same : {X Y : Type 0} (f h : X → Option Y) (o : Option X) → ((x : X) → f x ≡ h x)
+pub then_same : {X Y : Type 0} (f h : X → Option Y) (o : Option X) → ((x : X) → f x ≡ h x)
     → option_and_then f o ≡ option_and_then h o
 then_same f h None same = refl
 then_same f h (Some x) same = same x

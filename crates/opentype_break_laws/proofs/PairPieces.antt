@@ -170,14 +170,14 @@ back_agrees gdef table how hs gs from i is part long lt = elim (part_agrees gdef
 -- ---- A TEXT'S PIECES
 
 -- what a lookup makes of a buffer
-abbrev walked : List ℕ → List ℕ → StageLookup → Buffer → Progress
+abbrev pub walked : List ℕ → List ℕ → StageLookup → Buffer → Progress
 walked gdef gpos lookup b = applied_along (length b.glyphs)
     (pair_step (setting_for gdef gpos (application_for lookup) b) (lookup_in gpos lookup.index)) b.glyphs b.positions 0
 
-put_in_buffer : Buffer → Glyphs → Positions → Buffer
+unfoldable pub put_in_buffer : Buffer → Glyphs → Positions → Buffer
 put_in_buffer b gs ps = record b { glyphs = gs; positions = ps }
 
-made_is : (gdef gpos : List ℕ) (lookup : StageLookup) (b : Buffer) → positioned_by gdef gpos lookup b
+pub made_is : (gdef gpos : List ℕ) (lookup : StageLookup) (b : Buffer) → positioned_by gdef gpos lookup b
     ≡ put_in_buffer b (walked gdef gpos lookup b).glyphs (walked gdef gpos lookup b).positions
 unfolding positioned put_in_buffer
 made_is gdef gpos lookup b = refl
@@ -186,11 +186,11 @@ pub of_features : (lookup : StageLookup) → lookup.mask % 8 ≡ 0 → IsOfFeatu
 of_features lookup flagless = record { of_gpos = refl; flagless = λ m. mask_read m lookup.mask flagless }
 
 -- glyphs that differ by flags alone, cut at the same place
-record EssenceCut (front back before behind : Glyphs) : Type 0 where
+pub record EssenceCut (front back before behind : Glyphs) : Type 0 where
   pub first : AlikeTo essence front before
   pub second : AlikeTo essence back behind
 
-essence_cut : (gs last front back before behind : Glyphs) → AlikeTo essence last gs → last ≡ front ++ back
+pub essence_cut : (gs last front back before behind : Glyphs) → AlikeTo essence last gs → last ≡ front ++ back
     → gs ≡ before ++ behind → length front ≡ length before → EssenceCut front back before behind
 essence_cut gs last front back before behind same cut parts long =
     let joined : map essence front ++ map essence back ≡ map essence before ++ map essence behind =

@@ -215,7 +215,7 @@ next_high m at = next_upto m.has_second m.second
 
 -- ---- FLAGS
 
-flagged_only : (on : Bool) (start last : ℕ) (gs : Glyphs) → FlagsOnly gs (flagged_up_to on start last gs)
+pub flagged_only : (on : Bool) (start last : ℕ) (gs : Glyphs) → FlagsOnly gs (flagged_up_to on start last gs)
 unfolding flagged_up_to
 flagged_only on start last gs =
     let end = end_behind last gs in
@@ -224,7 +224,7 @@ flagged_only on start last gs =
     (both_true on (nat_le start end) (both_true (on && nat_le start end) (nat_le (end - start) 255) t).0).1 in
     unsafe_only start end gs (grind (arith, nat_tests, low))))
 
-flagged_is : (on : Bool) (start last : ℕ) (gs : Glyphs) → on ≡ true → start ≤ end_behind last gs
+pub flagged_is : (on : Bool) (start last : ℕ) (gs : Glyphs) → on ≡ true → start ≤ end_behind last gs
     → end_behind last gs - start ≤ 255 → flagged_up_to on start last gs ≡ unsafe_inside start (end_behind last gs) gs
 unfolding flagged_up_to
 flagged_is on start last gs is low few =
@@ -361,7 +361,7 @@ stepped_if s gs fs ps at true (Some m) only inside =
     subst (StepsByPair s.direction gs ps at (Some m)) (sym (made_inside s.direction m at fs ps
     (omega (arith, lt, comes_long gs fs only.comes)))) (pair_stepped s.direction gs fs ps at m only lt)
 
-tried_flags : (s : Setting) (sights : Sights) (table : List ℕ) (gs : Glyphs) (at : ℕ) → FlagsOnly gs (tried s sights table gs at)
+pub tried_flags : (s : Setting) (sights : Sights) (table : List ℕ) (gs : Glyphs) (at : ℕ) → FlagsOnly gs (tried s sights table gs at)
 unfolding tried
 tried_flags s sights table gs at = only_if (s.concat && nat_lt at (length gs)) gs
     (unjoined (lookup_looked s sights table gs at) gs) (λ t. unjoined_flags (lookup_looked s sights table gs at) gs)

@@ -10,6 +10,7 @@ pub mod OneAsTwo
 pub mod OneContext
 pub mod PlacedPieces
 pub mod Pairs
+pub mod Marks
 pub mod FontPositions
 pub mod TwoAdjustments
 pub mod TwoPairs
