@@ -44,6 +44,7 @@ mod SequenceRows
 mod ContextRows
 mod PositionRows
 mod PairRows
+mod MarkRows
 mod UnflaggedRows
 mod ContextTextRows
 mod OneContextRows

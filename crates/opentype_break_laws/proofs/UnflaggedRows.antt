@@ -30,10 +30,12 @@ use Rattle.opentype_gpos.specs.Making.{moved}
 use Rattle.opentype_gpos.specs.Moved.{Positions, does_move, flagged_up_to, mark_moved, pair_moved, plus, position_at, value_added, with_mark_move, with_value}
 use Rattle.opentype_gpos.specs.Moves.{attached_by, base_move, cursive_move, joined_from, joined_with, one_move, pair_move, pair_with}
 use Rattle.opentype_gpos.specs.Nearby.{any_seen, base_behind, base_glyph_before, carries_on, is_base_at, is_later_multiple, previous_any}
+use Rattle.opentype_gpos.specs.declared.moves.MarkMove.{MarkMove}
 use Rattle.opentype_gpos.specs.declared.moves.PairMove.{PairMove}
 use Rattle.opentype_gpos.specs.declared.values.Value.{Value}
 use Rattle.opentype_layout.specs.Sight.{flag_in, ignores, may_pass, next_from, seen_as, sight_of_context, sight_of_input}
 use Rattle.opentype_break_laws.proofs.PlacedPieces.{bare, bare_alike, first_same, second_same}
+use Rattle.opentype_break_laws.specs.Marks.{TakesMarks, mark_at}
 use Rattle.opentype_break_laws.specs.Pairs.{TakesPairs, pair_seen}
 use Rattle.opentype_break_laws.specs.PlacedPieces.{CutPlaced, IsPlacedPiece, LeavesPositions, placed_in}
 use Rattle.opentype_break_laws.specs.TwoSingles.{first_lookup}
@@ -332,6 +334,20 @@ row_mark = not_placed far_mark (with_marks 100) (last_mark (wide 0)) (with_marks
       positions = refl;
       paired = refl;
     })) (λ first second. absurd (omega (arith, sym mark_stays ∙ ap first_link second)))
+
+-- such a text doesn't take its mark, which stands 255 glyphs behind its base
+far_upon : MarkMove
+far_upon = record { to = 0; x = pos 50; y = pos 70 }
+
+mark_found : mark_at [] (lookup_in far_mark 0) (application_for first_lookup)
+    (joined (with_marks 100) (last_mark (wide 0))).glyphs 255 ≡ Some far_upon
+unfolding mark_at first_from bisect sight_of_input flag_in ignores any_seen seen_as may_pass far_upon
+mark_found = refl
+
+mark_not_taken : TakesMarks [] far_mark first_lookup (text_of (joined (with_marks 100) (last_mark (wide 0)))) → ⊥
+unfolding far_upon
+mark_not_taken takes = let few : 255 - 0 ≤ 254 = takes.short 255 far_upon (omega arith) mark_found in
+    absurd (omega (arith, few))
 
 -- type 3, which ignores marks: a line leaves a 1 at its right, 20 units up, and enters a 3 at its origin
 abbrev far_line : List ℕ
