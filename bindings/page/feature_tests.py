@@ -55,7 +55,7 @@ WORDS = [
         ("\u09ac\u09be\u0995\u09c7", None), ("\u0995\u09be", None)]),
     ("Bengali", "rphf", "rphf", [
         ("\u09b0\u09cd\u0995", "\u09b0", 1, REPH), ("\u09b0\u200d\u09cd\u09af", None)]),
-    ("Bengali", "blwf", "rkrf blwf vatu", [("\u0995\u09cd\u09b0", "\u09b0", 3, BELOW)]),
+    ("Bengali", "blwf", "blwf rkrf vatu", [("\u0995\u09cd\u09b0", "\u09b0", 3, BELOW)]),
     ("Bengali", "blwf", "blwf", [
         ("\u09b8\u09cd\u09ac", "\u09ac", 3, BELOW), ("\u09b0\u09cd\u09ac", None)]),
     ("Bengali", "pstf", "pstf", [
@@ -72,7 +72,7 @@ WORDS = [
     ("Gujarati", "rkrf", "rkrf blwf vatu", [("\u0a95\u0acd\u0ab0", None)]),
     ("Gujarati", "rkrf blwf", "rkrf blwf vatu", [("\u0a95\u0acd\u0ab0", "\u0ab0", 3, BELOW)]),
     ("Gujarati", "akhn", "akhn", [("\u0a95\u0acd\u0ab7", "\u0ab7", 3, JOINED)]),
-    ("Gurmukhi", "blwf", "rkrf blwf vatu", [
+    ("Gurmukhi", "blwf", "blwf rkrf vatu", [
         ("\u0a2a\u0a4d\u0a30", "\u0a30", 3, BELOW), ("\u0a2a\u0a4d\u0a39", "\u0a39", 3, BELOW),
         ("\u0a2a\u0a30", None)]),
     ("Gurmukhi", "pstf", "pstf", [("\u0a2a\u0a4d\u0a2f", "\u0a2f", 3, BESIDE)]),
@@ -138,7 +138,8 @@ def lack(features, script):
     *first, last = [f"\u201c{feature}\u201d" for feature in features.split()]
     if not first:
         return f"The font: It has no feature {last} for {script}"
-    return f"The font: It has none of the features {', '.join(first)} and {last} for {script}"
+    tags = f"{', '.join(first)} and {last}"
+    return f"The font: It has none of the features {tags} for {script}, any one of which would do"
 
 
 def sentence(script, features, character, nth, seen):
@@ -184,6 +185,7 @@ class FeatureTests:
         some = "It has the feature \u201cinit\u201d for some languages of Arabic alone"
         assert told(["fina"], ["init"]) == some, told(["fina"], ["init"])
         none = "It has none of the features \u201cinit\u201d and \u201cmedi\u201d for Arabic"
+        none += ", any one of which would do"
         assert told(["fina"]) == none, told(["fina"])
         assert self.page.run("lackInWords(null, ['init', 'medi'], 'Arab')") == none
 

@@ -45,21 +45,24 @@ const TWICE = "keeps its whole form behind its left part, which may then be draw
 const KINZI = "isn't drawn as a kinzi, the sign that it has above the letter after it";
 const STARTS = "starts a word in the form for the middle of one, which may have a line at its left";
 
+// RA below another letter.
+const raBelow = ({ letter, virama, ra, nukta }) =>
+  `(?<=(?!${ra})${letter}${virama})${ra}(?!${nukta})`;
+
 // What is asked, by OpenType's specifications of the scripts: of which scripts; by which character,
-// which is all that the expression matches; by which features, any of which would do; what is seen;
-// of which letter that is told, this one (0), the one before it or the one after it; and what shows
-// it, if that isn't that the character keeps the glyphs which it has alone.
+// which is all that the expression matches; by which features, any of which would do, the usual
+// one first; what is seen; of which letter that is told, this one (0), the one before it or the one
+// after it; and what shows it, if that isn't that the character keeps the glyphs which it has alone.
 const ASKED = [
   [["Deva", "Beng", "Gujr", "Orya", "Knda"],
     ({ letter, virama, ra }) => `(?<!${virama}\u200d?)${ra}(?=${virama}${letter})`,
     ["rphf"], REPH, 0, standsFirst],
   [["Sinh"], () => "\u0dbb(?=\u0dca\u200d[\u0d9a-\u0dc6])", ["rphf"], REPH, 0, standsFirst],
-  [["Deva", "Beng", "Gujr"],
-    ({ letter, virama, ra, nukta }) => `(?<=(?!${ra})${letter}${virama})${ra}(?!${nukta})`,
-    ["rkrf", "blwf", "vatu"], BELOW],
+  [["Deva", "Gujr"], raBelow, ["rkrf", "blwf", "vatu"], BELOW],
+  [["Beng"], raBelow, ["blwf", "rkrf", "vatu"], BELOW],
   [["Guru"],
     ({ letter, virama, ra, ha, va }) => `(?<=${letter}${virama})(?:${ra}|${ha}|${va})`,
-    ["rkrf", "blwf", "vatu"], BELOW],
+    ["blwf", "rkrf", "vatu"], BELOW],
   [["Beng"],
     ({ letter, virama, ra, ba }) => `(?<=(?!${ra}|${ba})${letter}${virama})${ba}`,
     ["blwf"], BELOW],
@@ -122,7 +125,8 @@ function lackInWords(lookups, features, script) {
     `feature${tags.length > 1 ? "s" : ""} ${listed(tags.map((tag) => `“${tag}”`))}`;
   const elsewhere = features.filter((feature) => lookups?.any.has(feature));
   if (elsewhere.length) return `It has the ${quoted(elsewhere)} for some languages of ${name} alone`;
-  return `It has ${features.length > 1 ? "none of the" : "no"} ${quoted(features)} for ${name}`;
+  if (features.length === 1) return `It has no ${quoted(features)} for ${name}`;
+  return `It has none of the ${quoted(features)} for ${name}, any one of which would do`;
 }
 
 // The glyphs that the characters of a text have alone, and those with which it is drawn in the font,
