@@ -14,6 +14,8 @@ REPH = "isn't drawn as a reph, the sign that it has before another letter."
 JOINED = "isn't joined with the letter before it into the sign that is usual for both."
 WHOLE = "keeps its whole form, with the virama after it."
 SUBSCRIPT = "isn't drawn as a subscript."
+AT_LEFT = "keeps its whole form instead of its subscript, which stands at the left of the letter"
+AT_LEFT += " before it."
 TWICE = "keeps its whole form behind its left part, which may then be drawn twice."
 KINZI = "isn't drawn as a kinzi, the sign that it has above the letter after it."
 STARTS = "starts a word in the form for the middle of one, which may have a line at its left."
@@ -98,7 +100,9 @@ WORDS = [
         ("\u1781\u17d2\u1798\u17c2\u179a", "\u1798", 3, SUBSCRIPT),
         ("\u1781\u17d2\u1799", None), ("\u1781\u17d2\u179a", None)]),
     ("Khmer", "pref", "pref", [
-        ("\u1781\u17d2\u179a", "\u179a", 3, SUBSCRIPT), ("\u1781\u17d2\u1798", None)]),
+        ("\u1781\u17d2\u179a", "\u179a", 3, AT_LEFT),
+        ("\u179f\u17d2\u178f\u17d2\u179a\u17b8", "\u179a", 5, AT_LEFT),
+        ("\u1781\u17d2\u1798", None)]),
     # (in that font other features give the vowel sign OO its right part)
     ("Khmer", "pstf", "pstf", [
         ("\u1781\u17d2\u1799", "\u1799", 3, SUBSCRIPT), ("\u1781\u17d2\u1798", None),

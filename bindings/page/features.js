@@ -41,6 +41,8 @@ const REPH = "isn't drawn as a reph, the sign that it has before another letter"
 const JOINED = "isn't joined with the letter before it into the sign that is usual for both";
 const WHOLE = "keeps its whole form, with the virama after it";
 const SUBSCRIPT = "isn't drawn as a subscript";
+const AT_LEFT =
+  "keeps its whole form instead of its subscript, which stands at the left of the letter before it";
 const TWICE = "keeps its whole form behind its left part, which may then be drawn twice";
 const KINZI = "isn't drawn as a kinzi, the sign that it has above the letter after it";
 const STARTS = "starts a word in the form for the middle of one, which may have a line at its left";
@@ -99,7 +101,7 @@ const ASKED = [
     ({ letter, virama }) =>
       `(?<=(?<![\\p{L}\\p{M}\\p{Cf}])(?:${letter}${virama})*${letter})[\u09c7\u09c8\u09cb\u09cc]`,
     ["init"], STARTS],
-  [["Khmr"], () => "(?<=\\p{Lo})\u17d2(?=\u179a)", ["pref"], SUBSCRIPT, 1],
+  [["Khmr"], () => "(?<=\\p{Lo})\u17d2(?=\u179a)", ["pref"], AT_LEFT, 1, keepsBoth],
   // KHO, CHO, BA, YO and SA have subscripts that rise beside the letter.
   [["Khmr"],
     () => "(?<=\\p{Lo})\u17d2(?=[\u1783\u1788\u1794\u1799\u179f])",
@@ -144,6 +146,11 @@ function keepsGlyphs({ alone, drawn }, place) {
   const own = alone.get(place) ?? [];
   const isKept = ({ number }) => number !== "0000" && numbers.includes(number);
   return own.length > 0 && own.every(isKept);
+}
+
+// Whether the characters at a place and after it are both drawn so.
+function keepsBoth(inFont, place) {
+  return keepsGlyphs(inFont, place) && keepsGlyphs(inFont, place + 1);
 }
 
 // Whether the glyph of the character at a place takes room, and stands before that of one of the
