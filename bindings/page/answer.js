@@ -130,9 +130,21 @@ function findingsOfText(text, shown, bytes) {
   found.push(...pairSentences(text, mark).map((sentence) => finding("text", sentence)));
   found.push(...invisibleSentences(text).map((sentence) => finding("text", sentence, false)));
   found.push(...brokenSentences(text, isOwn ? shown : null).map((sentence) => finding("text", sentence)));
-  const moved = movedInFont(text, isOwn ? movedCharacters(text, shown?.steps ?? []) : []);
-  if (moved.length) found.push(finding("script", `${moved.map(named).join(", ")} is drawn before the letters that it follows in the text; that is how the script is written.`, false));
   return found;
+}
+
+// Characters that aren't drawn themselves, and only tell that the letter after them is a subscript.
+const isSubscriptSign = (c) => /[\u1039\u17d2\u1a60]/u.test(c);
+
+// What the script draws before the letters that it follows; but for what these findings tell a fault of.
+function findingsOfScript(text, shown, bytes, findings) {
+  const isOwn = withoutShaper(shown?.script ?? null, shown, bytes) === null;
+  const faults = findings.filter(({ isFault }) => isFault).map(({ text }) => text).join();
+  const isTold = (c) => isSubscriptSign(c) || faults.includes(shownIn(c));
+  const moved = movedInFont(text, isOwn ? movedCharacters(text, shown?.steps ?? []) : []).filter((c) => !isTold(c));
+  if (moved.length === 0) return [];
+  const [are, follow] = moved.length === 1 ? ["is", "it follows"] : ["are", "they follow"];
+  return [finding("script", `${listed(moved.map(named))} ${are} drawn before the letters that ${follow} in the text; that is how the script is written.`, false)];
 }
 
 // Characters that aren't drawn: their names in Unicode, and what they do.
@@ -312,7 +324,10 @@ function findingsOfShapers(text, script, differ) {
 const WHOSE = { text: "The text", font: "The font", shapers: "The shapers", script: "The script" };
 
 // What is found in a text and its font.
-const findingsOf = (text, shown, shaped, bytes) => [...findingsOfText(text, shown, bytes), ...findingsOfFont(text, shown, bytes, shaped)];
+function findingsOf(text, shown, shaped, bytes) {
+  const [ofText, ofFont] = [findingsOfText(text, shown, bytes), findingsOfFont(text, shown, bytes, shaped)];
+  return [...ofText, ...findingsOfScript(text, shown, bytes, [...ofText, ...ofFont]), ...ofFont];
+}
 
 // A sentence, whose characters are drawn in the chosen font where it has them.
 const sentenceParts = (text) => text.split(/\u2068([^\u2069]*)\u2069/u).map((part, i) => (i % 2 ? made("bdi", { class: "character", lang: "" }, part) : part));

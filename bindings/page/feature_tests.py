@@ -177,6 +177,21 @@ class FeatureTests:
         robbed.append((self.robbed("Devanagari", "half"), "\u0915\u094d\u0937" * 1000, "font", None))
         return self.cases(robbed) + ", and " + self.cases(sorted(whole, key=str))
 
+    def test_what_moves_and_has_no_fault(self):
+        """That a character is drawn before what it follows excuses none of which a fault is told. A sign
+        that only tells of a subscript isn't drawn, so it isn't told."""
+        stri = "\u179f\u17d2\u178f\u17d2\u179a\u17b8"
+        ke = "\u1780\u17c1"
+        robbed, own = self.robbed("Khmer", "pref"), "that is how the script is written."
+        one = "The script: %s (U+%04X) is drawn before the letters that it follows in the text; " + own
+        two = "The script: \u25cc\u17c1 (U+17C1) and \u179a (U+179A) are drawn before the letters that "
+        return self.cases([
+            (self.noto("Khmer"), stri, "script", one % ("\u179a", 0x179A)),
+            (self.noto("Khmer"), ke + stri, "script", two + "they follow in the text; " + own),
+            (robbed, ke + stri, "font", sentence("Khmer", "pref", "\u179a", 7, AT_LEFT)),
+            (robbed, ke + stri, "script", one % ("\u25cc\u17c1", 0x17C1)),
+        ]) + self.without(robbed, stri, "script")
+
     def test_a_feature_of_some_languages(self):
         """A font that has a feature for some languages alone isn't said to have none."""
         def told(usual, others=()):
