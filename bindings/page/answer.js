@@ -258,6 +258,19 @@ function safeLookupsOf(bytes, table, script) {
   }
 }
 
+// A copy of a font in which a table's feature has a tag that no shaper asks for.
+function withoutFeature(bytes, table, feature) {
+  const copy = bytes.slice();
+  const view = new DataView(copy.buffer);
+  const at = tableAt(copy, table);
+  const list = at + view.getUint16(at + 6);
+  for (let i = 0; i < view.getUint16(list); i += 1) {
+    const record = list + 2 + 6 * i;
+    if (String.fromCharCode(...copy.subarray(record, record + 4)) === feature) copy.fill(0x7a, record, record + 4);
+  }
+  return copy;
+}
+
 // What a script's shaper does, where it takes no text in a font that has lookups for other scripts or for the default one
 // alone (HarfBuzz's hb_ot_shaper_categorize); null where the shaper takes the text in any font.
 function boundTo(script, shown) {

@@ -222,7 +222,8 @@ class FeatureTests:
 
     def test_features_that_marks_ask_for(self):
         """A mark without a width is drawn over its letter by its outline, which is no fault. Two
-        marks are told where they are drawn over each other, as the font places both on the letter."""
+        marks are told where they are drawn over each other, as the font places both on the letter, or
+        as its mkmk is a feature that moves neither (here its kerning)."""
         thai = "\u0e17\u0e35\u0e48"
         # (the sign II is as wide as 512 units, and begins where it did)
         wide = (b"hmtx", b"\0\0\xfd\xfe", b"\2\0\xfd\xfe")
@@ -232,6 +233,9 @@ class FeatureTests:
         two = lambda script, one, other: (  # noqa: E731
             f"{lack('mkmk', script)}, which places one mark on another, so "
             + over % (one, ord(one), other, ord(other)) + ".")
+        swapped = (b"GPOS", b"mkmk", b"zzzz"), (b"GPOS", b"kern", b"mkmk")
+        unmoved = f"The font: {over % (chr(0xE35), 0xE35, chr(0xE48), 0xE48)}; the font has the feature "
+        unmoved += "\u201cmkmk\u201d, which doesn't move these two."
         no_mkmk = {name: self.robbed(name, "mkmk", b"GPOS") for name in ("Thai", "Lao", "Myanmar")}
         distant = mark("stands at the same distance from the end of every letter.")
         return self.cases([
@@ -243,6 +247,10 @@ class FeatureTests:
             (self.noto("Thai"), thai, "font", None),
             (no_mkmk["Thai"], thai, "font", two("Thai", "\u0e35", "\u0e48")),
             (no_mkmk["Thai"], thai[:2], "font", None),
+            (self.spoilt("Thai", *swapped), thai, "font", unmoved),
+            (self.spoilt("Thai", *swapped), thai[:2], "font", None),
+            # (a font of Debian's whose tones lie on the vowel signs)
+            (self.fonts / "NotoLoopedThai-Regular.ttf", thai, "font", unmoved),
             # one above the letter, and one below
             (no_mkmk["Thai"], "\u0e17\u0e38\u0e48", "font", None),
             (no_mkmk["Lao"], "\u0e97\u0eb5\u0ec8", "font", two("Lao", "\u0eb5", "\u0ec8")),

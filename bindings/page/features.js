@@ -54,7 +54,7 @@ const raBelow = ({ letter, virama, ra, nukta }) =>
 // What is asked, by OpenType's specifications of the scripts: of which scripts; by which character,
 // which is all that the expression matches; by which features, any of which would do, the usual
 // one first; what is seen; of which letter that is told, this one (0), the one before it or the one
-// after it; and what shows it, if that isn't that the character keeps the glyphs which it has alone.
+// after it; and what shows it, if not that the character keeps the glyphs which it has alone.
 const ASKED = [
   [["Deva", "Beng", "Gujr", "Orya", "Knda"],
     ({ letter, virama, ra }) => `(?<!${virama}\u200d?)${ra}(?=${virama}${letter})`,
@@ -251,7 +251,7 @@ function findingsOfMarks(text, script, gpos, bytes, inFont) {
 }
 
 // The first mark that is drawn over the one before it (font.js), in a font that places marks on
-// letters and not on marks.
+// letters and not on marks; or whose feature for that doesn't move the two.
 function sentencesOnTwoMarks(text, script, bytes) {
   const gpos = script && safeLookupsOf(bytes, "GPOS", script);
   if (!gpos || lackInWords(gpos, PLACING, script)) return [];
@@ -259,11 +259,16 @@ function sentencesOnTwoMarks(text, script, bytes) {
   const characters = [...text];
   const isPair = (c, next) => isPlaced(c) && isPlaced(next) && c !== next;
   const pairs = characters.flatMap((c, i) => (isPair(c, characters[i + 1]) ? [i] : []));
-  const place = lack && pairs.length ? pairs.find(coveringMarks(text)) : undefined;
+  if (pairs.length === 0) return [];
+  const isCovering = coveringMarks(text);
+  let isUnmoved = lack ? () => true : null;
+  const isTold = (place) => isCovering(place) && (isUnmoved ??= unmovedMarks("mkmk", text))(place);
+  const place = pairs.find(isTold);
   if (place === undefined) return [];
   const [first, second] = [named(characters[place]), toldAt(characters, place + 1)];
   const seen = `${first} and ${second}, are drawn over each other`;
-  return [`${lack}, which places one mark on another, so ${seen}.`];
+  if (lack) return [`${lack}, which places one mark on another, so ${seen}.`];
+  return [`${seen}; the font has the feature “mkmk”, which doesn't move these two.`];
 }
 
 // What a text asks of a font's features and the font lacks; but for two marks, which need outlines.

@@ -100,20 +100,42 @@ function coveredPart(glyph, other, canvas) {
   return points.length ? points.filter(isInked).length / points.length : 0;
 }
 
-// Tells of a place in a text whether its character's glyph and that of the next one are drawn over each other.
-function coveringMarks(text) {
+// The placed glyphs of a text, by the places of their characters.
+function glyphsByPlace(text) {
   const [script, direction] = ["script", "direction"].map((id) => by(id).value);
   const glyphs = placed(fonts.ask(["shape", "sengadlit", script, direction, UNMERGED, "0", text].join("\n")) ?? []);
-  loadOutlines(glyphs);
   const starts = [0];
   for (const c of text) starts.push(starts.at(-1) + new TextEncoder().encode(c).length);
   const byStart = Map.groupBy(glyphs, ({ cluster }) => cluster);
+  return (place) => byStart.get(starts[place]) ?? [];
+}
+
+// Tells of a place in a text whether its character's glyph and that of the next one are drawn over each other.
+function coveringMarks(text) {
+  const glyphsAt = glyphsByPlace(text);
   const canvas = made("canvas").getContext("2d");
   return (place) => {
-    const [one, other] = [place, place + 1].map((at) => byStart.get(starts[at]) ?? []);
+    const [one, other] = [glyphsAt(place), glyphsAt(place + 1)];
     if (one.length !== 1 || other.length !== 1) return false;
+    loadOutlines([...one, ...other]);
     return Math.max(coveredPart(one[0], other[0], canvas), coveredPart(other[0], one[0], canvas)) >= MOST_COVERED;
   };
+}
+
+// Tells of a place in a text whether its character's glyph and that of the next one stand where they do without a feature of
+// GPOS, too.
+function unmovedMarks(feature, text) {
+  const bytes = fonts.font;
+  const glyphsAt = glyphsByPlace(text);
+  try {
+    fonts.takeFont(withoutFeature(bytes, "GPOS", feature));
+    const unmovedAt = glyphsByPlace(text);
+    const keys = (glyphs) => glyphs.map(({ number, at }) => `${number} ${at}`).join();
+    const isUnmoved = (place) => keys(glyphsAt(place)) === keys(unmovedAt(place));
+    return (place) => isUnmoved(place) && isUnmoved(place + 1);
+  } finally {
+    fonts.takeFont(bytes);
+  }
 }
 
 // ---- Drawing ----
