@@ -345,13 +345,23 @@ function findingsOf(text, shown, shaped, bytes) {
 // A sentence, whose characters are drawn in the chosen font where it has them.
 const sentenceParts = (text) => text.split(/\u2068([^\u2069]*)\u2069/u).map((part, i) => (i % 2 ? made("bdi", { class: "character", lang: "" }, part) : part));
 
+// A mark behind a vowel sign that takes room; and RA before a virama and a letter, which is drawn as a reph.
+const UNMEASURED = /\p{Mc}\p{Mn}|[\u0930\u09b0\u0ab0\u0b30\u0cb0][\u094d\u09cd\u0acd\u0b4d\u0ccd]\p{Lo}/u;
+
+// What is told of a text without a fault.
+function noneFound(text) {
+  const sentences = ["This page found none of the faults that it knows. Not every unusual order of characters is among them, and the page can't tell what the font's lookups should do."];
+  if (UNMEASURED.test(text)) sentences.push("It doesn't look at whether a mark is drawn over a vowel sign beside its letter, or over a reph.");
+  return [...sentences, "If the word still looks wrong, look below for the first step in which it does."].join(" ");
+}
+
 // Shows the sentences: what was found in a text and its font, and what differs between shapers.
 function showAnswer(text, findings, script, differ) {
   const found = text === "" ? [] : [...findings, ...findingsOfShapers(text, script, differ)];
   found.sort((a, b) => Number(b.isFault) - Number(a.isFault));
   const sentences = found.map(({ whose, text, isFault }) => made("li", { class: isFault ? "fault" : "fine", "data-whose": whose }, made("b", {}, WHOSE[whose] + ": "), ...sentenceParts(text)));
   if (text !== "" && !found.some(({ isFault }) => isFault))
-    sentences.unshift(made("li", { class: "fine" }, "This page found none of the faults that it knows. Not every unusual order of characters is among them, and the page can't tell what the font's lookups should do: if the word still looks wrong, look below for the first step in which it does."));
+    sentences.unshift(made("li", { class: "fine" }, noneFound(text)));
   by("findings").replaceChildren(...sentences);
 }
 

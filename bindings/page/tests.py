@@ -459,6 +459,7 @@ class Tests(FeatureTests):
         """The Unicode Standard's chapters 12 (a nukta follows its letter, and so does a virama), 16 (a tone follows the vowel above or
         below; SARA AE is one character; a subscript precedes the vowel sign) and 23 (joiners and other characters that aren't drawn)."""
         arabic = self.fonts / "NotoNaskhArabic-Regular.ttf"
+        unmeasured = "It doesn't look at whether a mark is drawn over a vowel sign beside its letter, or over a reph. If"
         return self.cases([
             (self.noto("Thai"), "\u0e17\u0e48\u0e35", "text", "The text: \u25cc\u0e48 (U+0E48), the 2nd character, stands before \u25cc\u0e35 (U+0E35): a tone is typed after"),
             (self.noto("Thai"), "\u0e17\u0e35\u0e48", "text", None),
@@ -479,6 +480,10 @@ class Tests(FeatureTests):
             (self.noto("Devanagari"), "\u0915\u094d\u200d\u0937", "text", "It has a ZERO WIDTH JOINER (U+200D) after \u25cc\u094d, which asks"),
             (arabic, "\u0639\u200c\u0631\u0628", "text", "It has a ZERO WIDTH NON-JOINER (U+200C) after \u0639, which keeps apart letters that would join."),
             (arabic, "\u0639\u200c\u0631\u0628", "", "This page found none of the faults that it knows."),
+            (arabic, "\u0639\u200c\u0631\u0628", "", "the font's lookups should do. If the word still looks wrong"),
+            (self.noto("Devanagari"), "\u0928\u0939\u0940\u0902", "", unmeasured),
+            (self.noto("Devanagari"), "\u0915\u0930\u094d\u092e", "", unmeasured),
+            (self.noto("Devanagari"), "\u0915\u094d\u0930\u0902", "", "should do. If the word still looks wrong"),
             (arabic, "\u061c\u0639", "text", "It has an ARABIC LETTER MARK (U+061C) at the start, which"),
             (arabic, "\u0639\ufe00", "text", "It has a character that isn't drawn (U+FE00) after \u0639."),
         ])
