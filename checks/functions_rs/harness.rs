@@ -794,11 +794,11 @@ impl UnicodeProperties for LotProperties {
 
     fn is_default_ignorable(&self, c: u32) -> bool { answer(3, 2, self.0, &[&c])[0] == 1 }
 
-    fn is_extended_pictographic(&self, c: u32) -> bool { answer(3, 4, self.0, &[&c])[0] == 1 }
+    fn is_extended_pictographic(&self, c: u32) -> bool { answer(3, 5, self.0, &[&c])[0] == 1 }
 
-    fn mirrored(&self, c: u32) -> Option<u32> { optional_number(&answer(3, 5, self.0, &[&c])) }
+    fn mirrored(&self, c: u32) -> Option<u32> { optional_number(&answer(3, 6, self.0, &[&c])) }
 
-    fn vertical_form(&self, c: u32) -> Option<u32> { optional_number(&answer(3, 6, self.0, &[&c])) }
+    fn vertical_form(&self, c: u32) -> Option<u32> { optional_number(&answer(3, 7, self.0, &[&c])) }
 }
 
 fn optional_number(answer: &[u64]) -> Option<u32> {

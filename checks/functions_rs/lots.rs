@@ -23,6 +23,8 @@ pub fn answer(of: u64, method: u64, seed: u64, question: &[u64]) -> Vec<u64> {
         }
         // three questions at once
         (3, 3) => return (0..3).map(|method| answer(3, method, seed, question)[0]).collect(),
+        // and what a glyph keeps of these three
+        (3, 4) => return vec![stored_properties(&answer(3, 3, seed, question), question[0])],
         _ => question,
     };
     let start = mixed(seed ^ (of * 8 + method + 1));
@@ -56,10 +58,28 @@ pub fn answer(of: u64, method: u64, seed: u64, question: &[u64]) -> Vec<u64> {
         (3, 0) => answer(1, 1, seed, question),
         (3, 1) => answer(2, 7, seed, question),
         (3, 2) => answer(2, 8, seed, question),
-        (3, 4) => vec![u64::from(lot % 4 == 0)],
+        (3, 5) => vec![u64::from(lot % 4 == 0)],
         // (another character, mirrored or upright)
-        (3, 5 | 6) if lot % 2 == 0 => vec![0],
-        (3, 5 | 6) => vec![1, (first + 1 + lot % 3) & 0xFFFF_FFFF],
+        (3, 6 | 7) if lot % 2 == 0 => vec![0],
+        (3, 6 | 7) => vec![1, (first + 1 + lot % 3) & 0xFFFF_FFFF],
         _ => unreachable!("a font, tables, a context, and properties"),
     }
+}
+
+/// What a glyph keeps of a character of this category, this class, and that need or need not be drawn, by the bits of
+/// `UnicodeProps`: the category, ignorable 0x20, hidden 0x40, a mark's continuation 0x80, and the high byte.
+fn stored_properties(kind: &[u64], c: u64) -> u64 {
+    let [general, class, ignorable] = [kind[0], kind[1], kind[2]];
+    let is_mark = (10..=12).contains(&general);
+    if c < 0x80 || !is_mark && ignorable == 0 {
+        return general;
+    }
+    let is_seen = matches!(c, 0x34F | 0x180B..=0x180D | 0x180F | 0xE0020..=0xE007F);
+    let joiner = match c {
+        0x200D => 1,
+        0x200C => 2,
+        _ => 0,
+    };
+    let byte = if is_mark { class } else { joiner };
+    general + 0x20 * ignorable + 0x40 * (ignorable & u64::from(is_seen)) + 0x80 * u64::from(is_mark) + 0x100 * byte
 }
